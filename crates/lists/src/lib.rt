@@ -1,0 +1,1 @@
+// Words on lists that the layers above share, and the one removal that closes a gap.

@@ -1,0 +1,2 @@
+// The wire: what carries batches and announcements between the rooms.
+pub mod announcement;
