@@ -6,7 +6,7 @@ use Prim.Native.Nat.{ℕ, _+_, _-_, _<_, _≤_}
 use lib.Dec.{eqb, ltb}
 use lib.ListN.{length, getD, replicate}
 use Rattle.std.specs.declared.option.Option.{Option}
-use Rattle.std.specs.declared.option.Option.the-variants.{None}
+use Rattle.std.specs.declared.option.Option.the-variants.{Some, None}
 use Rattle.std.specs.declared.result.Result.{Result}
 use Rattle.std.specs.declared.result.Result.the-variants.{Ok, Err}
 use Rattle.lists.specs.Words.{member, place, updated}
@@ -19,12 +19,20 @@ use Rattle.sets.specs.Sets.{bases}
 abbrev pub Amounts : Type 0
 Amounts = ℕ → ℕ
 
+-- the amounts that a list gives the bases in their order; what is no base has none
+abbrev pub amounts-in : List ℕ → Amounts
+amounts-in values x = cond (ltb x 32) (getD values x 0) 0
+
+-- an amount is above the limit of 1,000,000,000
+abbrev pub over-limit : ℕ → Bool
+over-limit amount = ltb 1000000000 amount
+
 -- a book's meaning
 pub record Stock : Type 0 where
   pub amounts : Amounts
   pub spare : ℕ
 
--- every amount is at most 1,000,000,000, and what is no base has none
+-- every amount is within the limit, and what is no base has none
 pub record Sound (s : Stock) : Type 0 where
   pub small : (x : ℕ) → s .amounts x ≤ 1000000000
   pub none-above : (x : ℕ) → 31 < x → s .amounts x ≡ 0
@@ -35,7 +43,7 @@ amount-of s base = answer (first-cause ((ltb 31 base, OverLimit) ∷ [])) (s .am
 
 -- why a write is refused
 abbrev pub write-cause : Stock → ℕ → ℕ → Option Refusal
-write-cause s base amount = first-cause ((eqb (s .spare) 0, TooFewSpare) ∷ (ltb 31 base || ltb 1000000000 amount, OverLimit) ∷ [])
+write-cause s base amount = first-cause ((eqb (s .spare) 0, TooFewSpare) ∷ (ltb 31 base || over-limit amount, OverLimit) ∷ [])
 
 -- a number of writes takes at most as many spare entries
 pub record Spends (writes old new : ℕ) : Type 0 where
@@ -47,6 +55,16 @@ pub record Written (s t : Stock) (base amount : ℕ) : Type 0 where
   pub taken : write-cause s base amount ≡ None
   pub amounts : t .amounts ≡ updated (s .amounts) base amount
   pub spare : Spends 1 (s .spare) (t .spare)
+
+-- a refused call: the cause that it gives is the right one, and nothing changed
+pub record Refused {B : Type 0} (cause : Option Refusal) (given : Refusal) (old new : B) : Type 0 where
+  pub why : cause ≡ Some given
+  pub same : new ≡ old
+
+-- what a write does to a book of any kind, whose meaning is what it holds
+abbrev pub Writing : {B : Type 0} → (B → Stock) → B → B → ℕ → ℕ → Result Unit Refusal → Type 0
+Writing holds old new base amount (Ok _) = Written (holds old) (holds new) base amount
+Writing holds old new base amount (Err e) = Refused (write-cause (holds old) base amount) e old new
 
 -- the amounts of a set's bases, rising, as eight with 0 after them
 abbrev pub packed : ℕ → Amounts → List ℕ

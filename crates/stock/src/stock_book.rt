@@ -1,0 +1,46 @@
+// One type that is a book of either kind, so that the rooms of one house can mix them.
+ghost use mathlib.Core.Path.{_≡_};
+ghost use Rattle.std.specs.Vec.{made};
+ghost use Rattle.stock.specs.Stock.{Writing};
+ghost use Rattle.stock.specs.StockBook.{book-holds, Buffer-after};
+use crate::book::Book;
+use crate::journal::Journal;
+use crate::journal::calls::JournalBook;
+use crate::table::Table;
+use crate::table::calls::TableBook;
+use refusals::Refusal;
+
+// A table or a journal.
+#[derive(Drop)]
+pub enum StockBook {
+    Table(Table),
+    Journal(Journal),
+}
+
+pub impl Book for StockBook as StockBookBook {
+    ghost holds = { book-holds };
+
+    fn amount(&self, base: u8) -> Result<u32, Refusal> {
+        match self {
+            StockBook::Table(table) => table.amount(base),
+            StockBook::Journal(journal) => journal.amount(base),
+        }
+    }
+
+    fn spare(&self) -> u32 {
+        match self {
+            StockBook::Table(table) => table.spare(),
+            StockBook::Journal(journal) => journal.spare(),
+        }
+    }
+
+    fn write(&mut self, base: u8, amount: u32) -> Result<(), Refusal>
+        ensures cases { λ r. ⌜ Writing book-holds (now (self .entry)) (now (self .exit)) base amount r ⌝ }
+        ensures after { λ r. ⌜ made r (λ _. Buffer-after (now (self .entry)) (now (self .exit)) base amount) ⌝ }
+    {
+        match self {
+            StockBook::Table(table) => table.write(base, amount),
+            StockBook::Journal(journal) => journal.write(base, amount),
+        }
+    }
+}
