@@ -1,1 +1,3 @@
 pub mod Plan
+pub mod Plans
+pub mod Laws

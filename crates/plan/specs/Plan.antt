@@ -1,6 +1,6 @@
 -- What a plan means: a number of rooms, and lines that give sets of bases their master rooms.
-use mathlib.Core.List.{List, [], _∷_}
-use mathlib.Core.Bool.{Bool, cond, _&&_, not}
+use mathlib.Core.List.{List, [], _∷_, _++_}
+use mathlib.Core.Bool.{Bool, true, cond, _&&_, not}
 use Prim.Native.Nat.{ℕ}
 use lib.Dec.{eqb, ltb, leb}
 use lib.ListN.{length}
@@ -47,3 +47,12 @@ line-right rooms l = sized (l .set) && ltb (l .master) rooms
 -- what every plan keeps
 abbrev pub plan-right : Plan → Bool
 plan-right p = (leb 1 (p .rooms) && leb (p .rooms) 8) && all (line-right (p .rooms)) (p .lines)
+
+-- no set stands in two lines
+abbrev pub each-once : List PlanLine → Bool
+each-once [] = true
+each-once (l ∷ ls) = not (planned ls (l .set)) && each-once ls
+
+-- a plan with one more line, at the end
+abbrev pub with-line : Plan → ℕ → ℕ → Plan
+with-line p set master = record { rooms = p .rooms; lines = p .lines ++ (record { set = set; master = master }) ∷ [] }
