@@ -1,0 +1,4 @@
+mod Numbers
+mod Places
+mod Texts
+mod Faults
