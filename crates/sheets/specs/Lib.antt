@@ -1,0 +1,6 @@
+pub mod WireKinds
+pub mod Ready
+pub mod Sheet
+pub mod Steps
+pub mod Lines
+pub mod Views
