@@ -12,7 +12,7 @@ use lib.ListN.{length, take, drop, getD, set, length-append, take-append-drop}
 use lib.Seq.{take-append-add, take-take}
 use Rattle.std.specs.Holes.{between}
 use Rattle.std.proofs.shelf.Edits.{between-none, between-more, length-between}
-use Rattle.std.proofs.shelf.Lists.{take-append-le, drop-take, length-drop, length-take-le, drop-more, set-at, take-rest, getD-append-right}
+use Rattle.std.proofs.shelf.Lists.{take-append-le, drop-take, length-drop, length-take-le, drop-more, set-at, take-rest, take-all, getD-append-right}
 use Rattle.std.proofs.shelf.Tests.{cases-bool, both-ways, eqb-true, eq-eqb}
 use Rattle.lists.specs.Words.{member, place, without, keep, Distinct}
 use Rattle.lists.specs.Gaps.{without-at, closed}
@@ -95,6 +95,12 @@ module _ {X : Type 0} where
       ∙ take-append-add (take at xs) (drop (at + 1) xs ++ drop (length xs - 1) xs) m
       ∙ ap (λ ys. take at xs ++ ys) (take-append-le m (drop (at + 1) xs) (drop (length xs - 1) xs) lm ∙ sym (drop-take (at + 1) m xs) ∙ ap (λ k. drop (at + 1) (take k xs)) (sym f))
       ∙ ap (λ ys. ys ++ drop (at + 1) (take n xs)) (sym (take-take at n xs le))
+
+-- all but the last element of a list whose gap is closed: the list without the element
+pub front-closed : {X : Type 0} (xs : List X) (at : ℕ) → at < length xs → take (length xs - 1) (closed at xs) ≡ without-at at xs
+front-closed xs at h =
+    let whole : length xs ≤ length xs = omega arith in
+    take-closed xs at (length xs) h whole ∙ ap (without-at at) (take-all (length xs) xs whole)
 
 without-missing : (a : ℕ) (xs : List ℕ) → member a xs ≡ false → without a xs ≡ xs
 without-missing a [] h = refl

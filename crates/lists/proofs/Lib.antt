@@ -1,1 +1,10 @@
+pub mod Befores
+pub mod Distincts
+pub mod Ends
+pub mod Fronts
 pub mod Gaps
+pub mod Keeps
+pub mod Keys
+pub mod Members
+pub mod Places
+pub mod Updates

@@ -3,6 +3,7 @@ ghost use mathlib.Core.Path.{_≡_};
 ghost use mathlib.Core.List.{[], _∷_};
 ghost use Prim.Native.Nat.{_<_, _^_};
 ghost use Rattle.std.specs.Options.{Cases as BySome};
+ghost use Rattle.lists.specs.Words.{member};
 ghost use Rattle.sets.specs.Sets.{bases, size, sized, within, shares};
 
 // How many bases a set has.
@@ -18,6 +19,13 @@ pub fn is_sized(set: u32) -> bool
 {
     let bases = count_bases(set);
     1 <= bases && bases <= 8
+}
+
+// Whether a base is in a set.
+pub fn has_base(set: u32, base: u8) -> bool
+    ensures { λ r. ⌜ r ≡ member base (bases set) ⌝ }
+{
+    base < 32 && (set >> base) % 2 == 1
 }
 
 // Whether a has no base that b lacks.
