@@ -1,11 +1,12 @@
 -- Amounts laid one after another, by the bases of a set, are the laid amounts: no base of a set comes twice, so that none
 -- is laid over another. By induction over the bases.
-use mathlib.Core.Path.{_≡_, refl, sym, ap, fun-ext, _∙_}
-use mathlib.Core.List.{List, [], _∷_, _++_, map}
-use mathlib.Core.Bool.{Bool, true, false, cond, _||_}
+use mathlib.Core.Path.{_≡_, refl, ap, fun-ext, _∙_}
+use mathlib.Core.List.{List, [], _∷_, map}
+use mathlib.Core.Bool.{Bool, false, cond}
 use mathlib.Core.Logic.{inl, inr}
-use Prim.Native.Nat.{ℕ, zero, suc, _+_, _≤_, _<_}
-use native.Mathlib.Nat.{add-suc, zero-add, add-zero}
+use Prim.Native.Nat.{ℕ, zero, suc, _+_, _<_}
+use native.Mathlib.Nat.{zero-add, add-zero}
+use native.Mathlib.Numerals.{add-one}
 use native.Mathlib.Omega.{arith}
 use lib.Dec.{eqb}
 use lib.ListN.{length, getD}
@@ -14,7 +15,7 @@ use Rattle.std.proofs.shelf.Tests.{cases-bool, eqb-true, ne-eqb, or-parts, or-f
 use Rattle.lists.specs.Words.{keep, member, place, updated, rising, Distinct}
 use Rattle.sets.specs.Sets.{has, bases}
 use Rattle.stock.specs.Stock.{Amounts, laid}
-use Rattle.stock.specs.BySet.{Laid-right, Packed-back}
+use Rattle.stock.specs.BySet.{Writes, Laid-right, Packed-back}
 use Rattle.stock.proofs.Places.{member-getD, place-getD, place-within, getD-place}
 
 -- one value after another, from value number k on, laid at the bases in turn
@@ -63,13 +64,28 @@ distinct-rising : (count start : ℕ) → Distinct (rising start count)
 distinct-rising zero start = tt
 distinct-rising (suc count) start = (member-rising count (suc start) start (omega arith), distinct-rising count (suc start))
 
-pub distinct-bases : (set : ℕ) → Distinct (bases set)
+distinct-bases : (set : ℕ) → Distinct (bases set)
 unfolding bases
 distinct-bases set = distinct-keep (has set) (rising 0 32) (distinct-rising 32 0)
 
 -- all of them, from the first on
 laid-from-first : (set : ℕ) (values : List ℕ) (m : Amounts) → laid-from (bases set) 0 values m ≡ laid set values m
 laid-from-first set values m = fun-ext (λ x. laid-from-at (bases set) 0 values m x (distinct-bases set) ∙ rw (zero-add (place x (bases set))))
+
+-- one base more
+pub laid-from-more : (left rest base k : ℕ) (values : List ℕ) (m n goal : Amounts) → bases left ≡ base ∷ bases rest → n ≡ updated m base (getD values k 0) → laid-from (bases left) k values m ≡ goal → laid-from (bases rest) (k + 1) values n ≡ goal
+laid-from-more left rest base k values m n goal some e h = rw (e, add-one k) (rw some at h)
+
+-- the writes that are left, from a book on, complete those from the start
+abbrev pub Leads : {B : Type 0} → (B → B → ℕ → ℕ → Type 0) → List ℕ → List ℕ → B → List ℕ → ℕ → B → Type 0
+Leads {B} leaves values all start left k now = (end : B) → Writes leaves left k values now end → Writes leaves all 0 values start end
+
+module _ {B : Type 0} (leaves : B → B → ℕ → ℕ → Type 0) (values all : List ℕ) (start : B) where
+  pub leads-more : (left rest base k : ℕ) (now next : B) → bases left ≡ base ∷ bases rest → leaves now next base (getD values k 0) → Leads leaves values all start (bases left) k now → Leads leaves values all start (bases rest) (k + 1) next
+  leads-more left rest base k now next some step lead = λ end w. lead end (rw some (next, step, rw (add-one k) at w))
+
+  pub leads-done : (left k : ℕ) (now : B) → bases left ≡ [] → Leads leaves values all start (bases left) k now → Writes leaves all 0 values start now
+  leads-done left k now none lead = lead now (rw none refl)
 
 -- once no base is left, they are laid
 pub laid-from-done : (set left k : ℕ) (values : List ℕ) (start m : Amounts) → bases left ≡ [] → laid-from (bases left) k values m ≡ laid-from (bases set) 0 values start → m ≡ laid set values start

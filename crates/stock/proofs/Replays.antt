@@ -2,11 +2,9 @@
 -- since no later one replaces its amount. By induction over the entries.
 use mathlib.Core.Path.{_≡_, refl, sym, ap, _∙_}
 use mathlib.Core.List.{List, [], _∷_, _++_}
-use mathlib.Core.Bool.{cond}
 use mathlib.Core.Logic.{_⊎_, inl, inr}
 use Prim.Native.Nat.{ℕ, zero, suc, _+_, _-_, _≤_, _<_}
 use native.Mathlib.Omega.{arith}
-use lib.Dec.{eqb}
 use lib.ListN.{length, getD, take, set}
 use Rattle.std.proofs.shelf.Lists.{take-more-set, getD-take, getD-read}
 use Rattle.std.proofs.shelf.Tests.{eq-eqb, ne-eqb, cases-eq}
@@ -15,10 +13,10 @@ use Rattle.stock.specs.declared.entry.Entry.{Entry}
 use Rattle.stock.specs.Stock.{Amounts}
 use Rattle.stock.specs.Entries.{replayed, entry-at, None-from, Last-at, Last-counts}
 
-pub updated-same : (m : Amounts) (base amount x : ℕ) → base ≡ x → updated m base amount x ≡ amount
+updated-same : (m : Amounts) (base amount x : ℕ) → base ≡ x → updated m base amount x ≡ amount
 updated-same m base amount x e = rw (eq-eqb x base (sym e))
 
-pub updated-other : (m : Amounts) (base amount x : ℕ) → (base ≡ x → ⊥) → updated m base amount x ≡ m x
+updated-other : (m : Amounts) (base amount x : ℕ) → (base ≡ x → ⊥) → updated m base amount x ≡ m x
 updated-other m base amount x n = rw (ne-eqb x base (λ e. n (sym e)))
 
 replayed-push : (entries : List Entry) (e : Entry) (m : Amounts) → replayed (entries ++ e ∷ []) m ≡ updated (replayed entries m) (e .base) (e .amount)

@@ -2,7 +2,7 @@
 use mathlib.Core.Path.{_≡_}
 use mathlib.Core.List.{List, [], _∷_}
 use mathlib.Core.Bool.{true, false, not, cond}
-use Prim.Native.Nat.{ℕ, _<_}
+use Prim.Native.Nat.{ℕ, suc, _<_}
 use lib.Dec.{ltb}
 use lib.ListN.{getD, take}
 use Rattle.std.specs.declared.option.Option.{Option}
@@ -25,16 +25,23 @@ write-set-cause s set values = first-cause (
     ∷ (any over-limit (take (size set) values), OverLimit)
     ∷ [])
 
--- what writing a set's amounts does where it is taken: exactly these amounts are replaced, for at most one entry a base
-pub record Set-written (s t : Stock) (set : ℕ) (values : List ℕ) : Type 0 where
-  pub taken : write-set-cause s set values ≡ None
-  pub amounts : t .amounts ≡ laid set values (s .amounts)
-  pub spare : Spends (size set) (s .spare) (t .spare)
+-- one write after another, as each leaves its book: to the bases in their order, the values from number k on
+abbrev pub Writes : {B : Type 0} → (B → B → ℕ → ℕ → Type 0) → List ℕ → ℕ → List ℕ → B → B → Type 0
+Writes leaves [] k values old new = new ≡ old
+Writes {B} leaves (x ∷ xs) k values old new = (next : B) × leaves old next x (getD values k 0) × Writes leaves xs (suc k) values next new
 
--- what writing a set's amounts does to a book of any kind, whose meaning is what it holds
-abbrev pub Set-writing : {B : Type 0} → (B → Stock) → B → B → ℕ → List ℕ → Result Unit Refusal → Type 0
-Set-writing holds old new set values (Ok _) = Set-written (holds old) (holds new) set values
-Set-writing holds old new set values (Err e) = Refused (write-set-cause (holds old) set values) e old new
+module _ {B : Type 0} (holds : B → Stock) (leaves : B → B → ℕ → ℕ → Type 0) where
+  -- what writing a set's amounts does to a book where it is taken: exactly these amounts are replaced, by one write a base, rising
+  pub record Set-written (old new : B) (set : ℕ) (values : List ℕ) : Type 0 where
+    pub taken : write-set-cause (holds old) set values ≡ None
+    pub amounts : holds new .amounts ≡ laid set values (holds old .amounts)
+    pub spare : Spends (size set) (holds old .spare) (holds new .spare)
+    pub writes : Writes leaves (bases set) 0 values old new
+
+  -- what writing a set's amounts does to a book of any kind
+  abbrev pub Set-writing : B → B → ℕ → List ℕ → Result Unit Refusal → Type 0
+  Set-writing old new set values (Ok _) = Set-written old new set values
+  Set-writing old new set values (Err e) = Refused (write-set-cause (holds old) set values) e old new
 
 -- the amounts of a set's bases; the others are left out
 abbrev pub only : ℕ → Amounts → Amounts

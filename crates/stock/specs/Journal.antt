@@ -45,7 +45,7 @@ pub record Journal-opened (buffer : Vec Entry Global) (amounts : List ℕ) (j : 
   pub used : j .used ≡ 0
 
 -- what a taken write leaves of a journal: the first spare entry is filled, and no other place is touched
-pub record Entered (old new : Journal) (base amount : ℕ) : Type 0 where
+pub record Journal-leaves (old new : Journal) (base amount : ℕ) : Type 0 where
   pub items : journal-items new ≡ set (journal-items old) (old .used) (record { base = base; amount = amount })
   pub used : new .used ≡ old .used + 1
   pub opening : new .opening ≡ old .opening

@@ -3,7 +3,7 @@ use mathlib.Core.Path.{_≡_}
 use mathlib.Core.List.{List, [], _∷_, _++_}
 use Prim.Native.Nat.{ℕ}
 use lib.Dec.{ltb}
-use lib.ListN.{length, drop}
+use lib.ListN.{length, drop, set}
 use Rattle.std.specs.Of.Vec.{vec-items}
 use Rattle.std.specs.declared.option.Option.{Option}
 use Rattle.std.specs.declared.option.Option.the-variants.{None}
@@ -32,3 +32,7 @@ pub record Table-opened (buffer opening : List ℕ) (t : Table) : Type 0 where
   pub taken : table-cause buffer opening ≡ None
   pub holds : table-holds t ≡ opening-stock opening 4096
   pub items : table-items t ≡ opening ++ drop 32 buffer
+
+-- what a taken write leaves of a table: the amount stands at its base, and no other place of the buffer is touched
+abbrev pub Table-leaves : Table → Table → ℕ → ℕ → Type 0
+Table-leaves old new base amount = table-items new ≡ set (table-items old) base amount

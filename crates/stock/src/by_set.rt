@@ -5,7 +5,7 @@ ghost use lib.ListN.{take};
 ghost use Rattle.std.specs.declared.option.Option.the-variants.{None};
 ghost use Rattle.refusals.specs.Causes.{answer};
 ghost use Rattle.sets.specs.Sets.{size};
-ghost use Rattle.stock.specs.Stock.{Spends, amounts-in, packed, laid};
+ghost use Rattle.stock.specs.Stock.{amounts-in, packed};
 ghost use Rattle.stock.specs.BySet.{write-set-cause, Set-written, Set-writing, only, Laid-right, Packed-back};
 use crate::book::Book;
 use crate::limits::any_over_limit;
@@ -35,17 +35,25 @@ pub fn check_set<B: Book>(book: &B, set: u32, amounts: &[u32; 8]) -> Result<(), 
 // changes, for a set that does not have one to eight bases, for fewer spare entries than bases, then for an amount above
 // the limit.
 pub fn write_set<B: Book>(book: &mut B, set: u32, amounts: &[u32; 8]) -> Result<(), Refusal>
-    ensures { λ r. ⌜ Set-writing (B·Book .holds) (now (book .entry)) (now (book .exit)) set (now (amounts .entry)) r ⌝ }
+    ensures { λ r. ⌜ Set-writing (B·Book .holds) (B·Book .leaves) (now (book .entry)) (now (book .exit)) set (now (amounts .entry)) r ⌝ }
 {
     check_set(book, set, amounts)?;
+    write_each(book, set, amounts);
+    Ok(())
+}
+
+// Writes the amounts of a set's bases to a book that takes them.
+fn write_each<B: Book>(book: &mut B, set: u32, amounts: &[u32; 8])
+    requires { ⌜ write-set-cause (B·Book .holds (now book)) set (now amounts) ≡ None ⌝ }
+    ensures { λ _. ⌜ Set-written (B·Book .holds) (B·Book .leaves) (now (book .entry)) (now (book .exit)) set (now (amounts .entry)) ⌝ }
+{
     let mut left = set;
     let mut k = 0;
     while let Some((base, rest)) = split_lowest(left) {
-        book.write(base, amounts[k])?;
+        book.write(base, amounts[k]).unwrap();
         left = rest;
         k += 1;
     }
-    Ok(())
 }
 
 // The amount of every base of a set, at the base's place among 32, and 0 elsewhere.

@@ -19,5 +19,5 @@ pub struct Journal {
     ghost short: { vec-len buffer ≤ 4096 },
     ghost within: { used ≤ vec-len buffer },
     ghost small: { ((x : ℕ) → replayed (take used (vec-items buffer)) (amounts-in opening) x ≤ 1000000000) },
-    ghost bases: { ((x : ℕ) → 31 < x → replayed (take used (vec-items buffer)) (amounts-in opening) x ≡ 0) },
+    ghost beyond: { ((x : ℕ) → 31 < x → replayed (take used (vec-items buffer)) (amounts-in opening) x ≡ 0) },
 }

@@ -1,8 +1,5 @@
 // One type that is a book of either kind, so that the rooms of one house can mix them.
-ghost use mathlib.Core.Path.{_≡_};
-ghost use Rattle.std.specs.Vec.{made};
-ghost use Rattle.stock.specs.Stock.{Writing};
-ghost use Rattle.stock.specs.StockBook.{book-holds, Buffer-after};
+ghost use Rattle.stock.specs.StockBook.{book-holds, Book-leaves};
 use crate::book::Book;
 use crate::journal::Journal;
 use crate::journal::calls::JournalBook;
@@ -20,6 +17,8 @@ pub enum StockBook {
 pub impl Book for StockBook as StockBookBook {
     ghost holds = { book-holds };
 
+    ghost leaves = { Book-leaves };
+
     fn amount(&self, base: u8) -> Result<u32, Refusal> {
         match self {
             StockBook::Table(table) => table.amount(base),
@@ -34,10 +33,7 @@ pub impl Book for StockBook as StockBookBook {
         }
     }
 
-    fn write(&mut self, base: u8, amount: u32) -> Result<(), Refusal>
-        ensures cases { λ r. ⌜ Writing book-holds (now (self .entry)) (now (self .exit)) base amount r ⌝ }
-        ensures after { λ r. ⌜ made r (λ _. Buffer-after (now (self .entry)) (now (self .exit)) base amount) ⌝ }
-    {
+    fn write(&mut self, base: u8, amount: u32) -> Result<(), Refusal> {
         match self {
             StockBook::Table(table) => table.write(base, amount),
             StockBook::Journal(journal) => journal.write(base, amount),

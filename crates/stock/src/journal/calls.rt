@@ -3,11 +3,9 @@ ghost use mathlib.Core.Path.{_≡_};
 ghost use Rattle.std.specs.Of.Vec.{vec-items};
 ghost use Rattle.std.specs.Options.{Cases as BySome};
 ghost use Rattle.std.specs.Results.{Cases};
-ghost use Rattle.std.specs.Vec.{made};
-ghost use Rattle.stock.specs.Stock.{Writing};
 ghost use Rattle.stock.specs.Openings.{Handed-back};
 ghost use Rattle.stock.specs.Entries.{None-from, Last-at, Last-counts};
-ghost use Rattle.stock.specs.Journal.{journal-items, written-entries, journal-holds, journal-cause, Journal-opened, Entered};
+ghost use Rattle.stock.specs.Journal.{journal-items, written-entries, journal-holds, journal-cause, Journal-opened, Journal-leaves};
 use super::Journal;
 use crate::book::Book;
 use crate::entry::Entry;
@@ -83,6 +81,8 @@ impl Journal {
 pub impl Book for Journal as JournalBook {
     ghost holds = { journal-holds };
 
+    ghost leaves = { Journal-leaves };
+
     fn amount(&self, base: u8) -> Result<u32, Refusal> {
         if base > LAST_BASE {
             return Err(Refusal::OverLimit);
@@ -97,10 +97,7 @@ pub impl Book for Journal as JournalBook {
         (self.buffer.len() - self.used) as u32
     }
 
-    fn write(&mut self, base: u8, amount: u32) -> Result<(), Refusal>
-        ensures cases { λ r. ⌜ Writing journal-holds (now (self .entry)) (now (self .exit)) base amount r ⌝ }
-        ensures after { λ r. ⌜ made r (λ _. Entered (now (self .entry)) (now (self .exit)) base amount) ⌝ }
-    {
+    fn write(&mut self, base: u8, amount: u32) -> Result<(), Refusal> {
         if self.used == self.buffer.len() {
             return Err(Refusal::TooFewSpare);
         }

@@ -1,12 +1,9 @@
 // Opening, reading, writing and closing a table.
 ghost use mathlib.Core.Path.{_≡_};
-ghost use lib.ListN.{set};
 ghost use Rattle.std.specs.Of.Vec.{vec-items};
 ghost use Rattle.std.specs.Results.{Cases};
-ghost use Rattle.std.specs.Vec.{made};
-ghost use Rattle.stock.specs.Stock.{Writing};
 ghost use Rattle.stock.specs.Openings.{Handed-back};
-ghost use Rattle.stock.specs.Table.{table-items, table-holds, table-cause, Table-opened};
+ghost use Rattle.stock.specs.Table.{table-items, table-holds, table-cause, Table-opened, Table-leaves};
 use super::Table;
 use crate::book::Book;
 use crate::limits::BASES;
@@ -60,6 +57,8 @@ impl Table {
 pub impl Book for Table as TableBook {
     ghost holds = { table-holds };
 
+    ghost leaves = { Table-leaves };
+
     fn amount(&self, base: u8) -> Result<u32, Refusal> {
         if base > LAST_BASE {
             return Err(Refusal::OverLimit);
@@ -71,10 +70,7 @@ pub impl Book for Table as TableBook {
         SPARE
     }
 
-    fn write(&mut self, base: u8, amount: u32) -> Result<(), Refusal>
-        ensures cases { λ r. ⌜ Writing table-holds (now (self .entry)) (now (self .exit)) base amount r ⌝ }
-        ensures after { λ r. ⌜ made r (λ _. table-items (now (self .exit)) ≡ set (table-items (now (self .entry))) base amount) ⌝ }
-    {
+    fn write(&mut self, base: u8, amount: u32) -> Result<(), Refusal> {
         if base > LAST_BASE || amount > LIMIT {
             return Err(Refusal::OverLimit);
         }

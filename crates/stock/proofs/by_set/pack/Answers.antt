@@ -1,12 +1,12 @@
 use mathlib.Core.Path.{_≡_, refl, sym, ap, _∙_}
-use Prim.Native.Nat.{ℕ, _<_, _≤_}
+use Prim.Native.Nat.{_≤_}
 use native.Mathlib.Omega.{arith}
-use lib.ListN.{length, replicate, getD, set}
+use lib.ListN.{length, getD, set}
 use Rattle.std.proofs.shelf.Lists.{length-drop}
 use Rattle.sets.specs.Sets.{bases}
 use Rattle.stock.specs.Stock.{amounts-in}
 use Rattle.stock.proofs.Bounds.{getD-zeros, amounts-in-base}
-use Rattle.stock.proofs.Packings.{Packing, head-at, packing-more, packing-done, packed-whole}
+use Rattle.stock.proofs.Packings.{head-at, packing-more, packing-done, packed-whole}
 use Rattle.stock.proofs.by_set.pack.Needs as need
 
 pub loop-k-holds : need.loop-k-holds

@@ -1,4 +1,4 @@
-use mathlib.Core.Path.{_≡_, refl, ap}
+use mathlib.Core.Path.{refl, ap}
 use mathlib.Core.Bool.{cond}
 use Rattle.lists.specs.Words.{member}
 use Rattle.sets.specs.Sets.{bases}

@@ -3,7 +3,6 @@ use Prim.Native.Nat.{_-_}
 use native.Mathlib.Omega.{arith}
 use lib.ListN.{length}
 use Rattle.std.proofs.shelf.Lists.{length-take-le}
-use Rattle.stock.specs.Entries.{entry-at}
 use Rattle.stock.specs.Journal.{written-entries}
 use Rattle.stock.specs.declared.entry.Entry.{Entry}
 use Rattle.stock.proofs.Replays.{none-back, last-back, read-entry}

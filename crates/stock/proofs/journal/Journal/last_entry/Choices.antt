@@ -1,4 +1,3 @@
-use lib.ListN.{take}
 use Rattle.stock.specs.Entries.{None-from}
 use Rattle.stock.specs.Journal.{written-entries}
 use Rattle.stock.proofs.journal.Journal.last_entry.Given as given

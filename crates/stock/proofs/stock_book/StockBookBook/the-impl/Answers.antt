@@ -5,4 +5,4 @@ use Rattle.stock.proofs.stock_book.StockBookBook.the-impl.Needs as need
 
 pub sound-law : need.sound-law
 sound-law (a-table t) = record { small = t .small; none-above = amounts-in-none (table-items t) }
-sound-law (a-journal j) = record { small = j .small; none-above = j .bases }
+sound-law (a-journal j) = record { small = j .small; none-above = j .beyond }

@@ -1,10 +1,7 @@
-use mathlib.Core.Path.{_≡_, sym, ap, _∙_}
-use mathlib.Core.List.{_++_}
-use Prim.Native.Nat.{_≤_}
+use mathlib.Core.Path.{_≡_}
 use native.Mathlib.Omega.{arith}
 use lib.ListN.{length, drop}
 use borrow.Author.Needs.{needs}
-use Rattle.stock.specs.Stock.{amounts-in}
 use Rattle.stock.proofs.Bounds.{opened-items, opened-holds, amounts-in-append, small-in}
 use Rattle.stock.proofs.table.Table.open.Needs as need
 

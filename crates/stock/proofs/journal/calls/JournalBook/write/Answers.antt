@@ -1,13 +1,10 @@
-use mathlib.Core.Path.{_≡_, refl}
-use Prim.Native.Nat.{_<_, _≤_, _+_}
+use mathlib.Core.Path.{refl}
 use native.Mathlib.Omega.{arith}
-use lib.ListN.{length, take, set}
-use borrow.Author.Needs.{needs}
-use Rattle.lists.specs.Words.{updated}
 use Rattle.stock.specs.Stock.{amounts-in}
 use Rattle.stock.specs.Entries.{replayed}
-use Rattle.stock.specs.Journal.{written-entries}
+use Rattle.stock.specs.Journal.{journal-holds, written-entries}
 use Rattle.stock.proofs.Bounds.{updated-small, updated-none-above}
+use Rattle.stock.proofs.Causes.{write-taken}
 use Rattle.stock.proofs.Replays.{replayed-write}
 use Rattle.stock.proofs.journal.calls.JournalBook.write.Needs as need
 
@@ -23,7 +20,7 @@ ghost-self c =
           omega arith,
           (
             (λ x. rw written (updated-small m (c .args .base) (c .args .amount) (j .small) (omega arith) x)),
-            ((λ x h. rw written (updated-none-above m (c .args .base) (c .args .amount) (j .bases) (omega arith) x h)), tt),
+            ((λ x h. rw written (updated-none-above m (c .args .base) (c .args .amount) (j .beyond) (omega arith) x h)), tt),
           ),
         ),
       ),
@@ -34,7 +31,7 @@ returns c =
     let j = c .args .self .now in
     record {
       cases = record {
-        taken = search needs;
+        taken = write-taken (journal-holds j) (c .args .base) (c .args .amount) (omega arith) (omega arith) (omega arith);
         amounts = replayed-write (j .buffer .items) (j .used) (record { base = c .args .base; amount = c .args .amount }) (amounts-in (j .opening)) (omega arith);
         spare = record { at-most = omega arith; no-more = omega arith };
       };
