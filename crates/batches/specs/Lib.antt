@@ -1,3 +1,4 @@
 pub mod Batches
 pub mod Runs
 pub mod Sealed
+pub mod Laws

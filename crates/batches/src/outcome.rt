@@ -1,4 +1,8 @@
 // What a run of a batch comes to.
+ghost use mathlib.Core.Path.{_≡_};
+ghost use Rattle.batches.specs.Runs.{outcome-number};
+
+// The outcome of a run.
 #[derive(Clone, Copy, PartialEq, Eq, Debug)]
 pub enum Outcome {
     // every step was made
@@ -7,6 +11,15 @@ pub enum Outcome {
     Short,
     // a step would have passed 1,000,000,000
     Over,
+}
+
+impl Outcome {
+    // The number of the outcome.
+    pub fn number(self) -> u8
+        ensures value { λ r. ⌜ r ≡ outcome-number self ⌝ }
+    {
+        self as u8 + 1
+    }
 }
 
 // The result of a run: its outcome, the place of the step that failed, counted from 1, or 0, and the amounts of the

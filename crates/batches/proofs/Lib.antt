@@ -1,0 +1,3 @@
+pub mod Drafts
+pub mod Runs
+pub mod Turns
