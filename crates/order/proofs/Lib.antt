@@ -1,0 +1,6 @@
+pub mod Runs
+pub mod Walks
+pub mod Sorts
+pub mod Serializers
+pub mod Hearings
+pub mod Serials

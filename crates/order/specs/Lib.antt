@@ -1,0 +1,4 @@
+pub mod Works
+pub mod Order
+pub mod Laws
+pub mod Examples
