@@ -1,4 +1,3 @@
-pub mod WireKinds
 pub mod Ready
 pub mod Sheet
 pub mod Steps

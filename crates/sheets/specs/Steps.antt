@@ -79,9 +79,16 @@ amount-cause books room base = first-cause ((leb (length books) room, OutOfRange
 abbrev pub amount-asked : List Stock → ℕ → ℕ → Result ℕ Refusal
 amount-asked books room base = answer (amount-cause books room base) (getD books room no-book .amounts base)
 
+-- the wires have the kinds 1 to 3
+abbrev pub no-kind : ℕ → Bool
+no-kind number = not (leb 1 number && leb number 3)
+
+abbrev pub kind-cause : ℕ → Option Refusal
+kind-cause number = first-cause ((no-kind number, OutOfRange) ∷ [])
+
 -- why a frame in turn is refused
 abbrev pub frame-cause : Sheet → Frame → Option Refusal
-frame-cause s (Begin rooms wire) = first-cause ((not (leb 1 rooms && leb rooms 4), OutOfRange) ∷ (not (leb 1 wire && leb wire 3), OutOfRange) ∷ [])
+frame-cause s (Begin rooms wire) = first-cause ((not (leb 1 rooms && leb rooms 4), OutOfRange) ∷ (no-kind wire, OutOfRange) ∷ [])
 frame-cause s (PlanLine room set) = line-cause (stage-plan (s .stage)) set room
 frame-cause s (Opening base amount) = first-cause ((ltb 31 base || ltb 1000000000 amount, OverLimit) ∷ [])
 frame-cause s Seal = None

@@ -7,7 +7,7 @@ use Rattle.stock.specs.StockBook.{book-holds}
 use Rattle.sheets.specs.declared.sheet.Sheet.{Sheet as SheetInCode}
 use Rattle.sheets.specs.declared.stage.Stage.{Stage as StageInCode}
 use Rattle.sheets.specs.declared.stage.Stage.the-variants.{Blank, Planning, Open}
-use Rattle.sheets.specs.WireKinds.{kind-number}
+use Rattle.wires.specs.Kinds.{kind-number}
 use Rattle.sheets.specs.Sheet.{Sheet, Stage, blank, planning, open-house}
 
 abbrev pub stage-of : StageInCode → Stage

@@ -4,12 +4,15 @@ ghost use mathlib.Core.Bool.{true};
 ghost use mathlib.Core.List.{map};
 ghost use Rattle.stock.specs.StockBook.{book-holds};
 ghost use Rattle.std.specs.declared.result.Result.the-variants.{Ok};
-ghost use Rattle.sheets.specs.Steps.{amount-asked, in-turn, Acting, is-blank, is-planning, is-open};
+ghost use Rattle.std.specs.Results.{errPart};
+ghost use Rattle.std.specs.Vec.{made};
+ghost use Rattle.wires.specs.Kinds.{kind-number};
+ghost use Rattle.sheets.specs.Steps.{amount-asked, kind-cause, in-turn, Acting, is-blank, is-planning, is-open};
 ghost use Rattle.sheets.specs.Views.{sheet-of, stage-of};
 ghost use Rattle.frames.specs.declared.frame.Frame.the-variants.{Begin, PlanLine, Opening, Seal, Amount};
 use crate::sheet::Sheet;
 use crate::stage::Stage;
-use crate::wire_kind::WireKind;
+use wires::WireKind;
 use answers::Reply;
 use frames::Frame;
 use plan::PlanDraft;
@@ -28,6 +31,14 @@ fn amount_in(books: &[StockBook], room: u8, base: u8) -> Result<u32, Refusal>
         return Err(Refusal::OutOfRange);
     }
     books[room as usize].amount(base)
+}
+
+// The kind of wire that a number names; others are refused.
+fn wire_kind(number: u8) -> Result<WireKind, Refusal>
+    ensures refused { λ r. ⌜ errPart r ≡ kind-cause number ⌝ }
+    ensures made { λ r. ⌜ made r (λ kind. kind-number kind ≡ number) ⌝ }
+{
+    WireKind::from_number(number)
 }
 
 impl Sheet {
@@ -51,7 +62,7 @@ impl Sheet {
             return Err(Refusal::OutOfRange);
         }
         let plan = PlanDraft::begin(rooms)?;
-        let wire = WireKind::from_number(wire)?;
+        let wire = wire_kind(wire)?;
         self.stage = Stage::Planning { plan, wire };
         Ok(Reply::Done)
     }

@@ -8,10 +8,8 @@ pub mod memory;
 mod opening;
 pub mod sheet;
 pub mod stage;
-pub mod wire_kind;
 
 pub use fault::Fault;
 pub use fault::LineFault;
 pub use line_buffer::LineBuffer;
 pub use sheet::Sheet;
-pub use wire_kind::WireKind;

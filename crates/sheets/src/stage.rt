@@ -1,4 +1,4 @@
-use crate::wire_kind::WireKind;
+use wires::WireKind;
 use plan::PlanDraft;
 use plan::SealedPlan;
 use stock::StockBook;
