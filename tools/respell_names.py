@@ -3,7 +3,7 @@
 
 usage: python3 tools/respell_names.py [--check]     at the top of the repository; --check only prints the table
 
-A definition, a field and a ghost member: words joined by '_'. A fact or a record: upper camel case. A lemma: a dash joins
+A definition, a field and a constructor: words joined by '_'. A fact or a record: upper camel case. A lemma: a dash joins
 two names, and any other word is added with '_'; one that would get the name of something in src/ also gets '_lem'. Names
 that Rattle makes (a goal's, a step's) keep their dashes, and the program's own names in src/ stay as they are. It goes by
 whole words in .antt and .rt files and, in pages, by code spans. It stops where two names would fall together.
@@ -40,7 +40,7 @@ def declarations():
     found = collections.defaultdict(set)
     whole = set(KNOWN)
     for path in files(".antt"):
-        in_record = False
+        in_type = False
         for line in read(path).splitlines():
             m = DECLARED.match(line)
             if not m:
@@ -48,12 +48,12 @@ def declarations():
             indent, marks, name, _, type_ = m.groups()
             marks = marks.split()
             if not indent:
-                in_record = "record" in marks
+                in_type = "record" in marks or "data" in marks
             if type_.startswith("goal.") or name in ("module", "--"):
                 continue
             if name[0].isupper() and name[1:2].islower():
                 kind = "fact"
-            elif "abbrev" in marks or "unfoldable" in marks or (indent and in_record):
+            elif "abbrev" in marks or "unfoldable" in marks or (indent and in_type):
                 kind = "definition"
             else:
                 kind = "lemma"

@@ -1,12 +1,12 @@
 -- A settle counts what changed: who moves is new in the settled list, and a mark is borne before and not after exactly by
 -- those who lose it.
-use Rattle.std.proofs.Common.{◌≡◌, ℕ, ◌+◌, Bool, true, false, cond, not, ◌&&◌, ◌⊎◌, List, [], ◌∷◌, ◌++◌, length, sym, refl, ap, ◌∙◌, inl, inr, arith, length-append}
+use Rattle.std.proofs.Common.{◌≡◌, ℕ, Bool, true, false, cond, not, ◌&&◌, List, [], ◌∷◌, ◌++◌, length, sym, ap, ◌∙◌, inl, inr, arith, length-append}
 use Rattle.std.proofs.lemmas.List.{length_push}
 use Rattle.std.proofs.lemmas.Bool.{cases_Bool}
 use Rattle.lists.specs.Words.{member, keep}
 use Rattle.lists.proofs.Keeps.{keep-keep, keep_same, keep-none, member-keep}
 use Rattle.order.specs.Works.{Works, share}
-use Rattle.agreement.specs.Rooms.{Room, is_marked, gone_ahead, still_waiting, thrown, room_settled, room_settle, ahead_count, thrown_count}
+use Rattle.agreement.specs.Rooms.{Room, is_marked, gone_ahead, still_waiting, thrown, room_settled, room_settle, ahead_count}
 use Rattle.agreement.specs.Promises.{SettleCounts}
 use Rattle.agreement.proofs.FitSettle.{marked_off}
 

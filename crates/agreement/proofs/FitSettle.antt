@@ -27,7 +27,7 @@ use Rattle.agreement.proofs.Lines.{member-waiting}
 use Rattle.agreement.proofs.Settling.{taken_here, ahead_of, settled_same, waiting-same, settled_moves, waiting_moves, moves_sits}
 use Rattle.agreement.proofs.KeepSettle.{mark-here, settle-keeps}
 use Rattle.agreement.proofs.Causes.{passed, passed_not, room_passed}
-use Rattle.agreement.proofs.Known as Known-so
+use Rattle.agreement.proofs.Known as KnownSo
 use Rattle.agreement.proofs.Fits.{unpacked, RoomFits, Fits, settled-sits, heard-known}
 
 -- a mark taken off
@@ -203,7 +203,7 @@ module _ (g : Given) (w : Scene) (s : Picture) (h : House) (o : Fits g w s h) (k
 
   this_room : RoomFits w s' k (room_settle (works g h) k r q)
   this_room = elim (cases_Bool (member q r.waiting)) [
-    | inl t ↦ subst (RoomFits w s' k) (sym (ap (λ c. cond c (room_settled (works g h) k r q) r) t ∙ Known-so.settled_same (works g h) ws r (heard-known g w s h o k) k q t)) (moved t)
+    | inl t ↦ subst (RoomFits w s' k) (sym (ap (λ c. cond c (room_settled (works g h) k r q) r) t ∙ KnownSo.settled_same (works g h) ws r (heard-known g w s h o k) k q t)) (moved t)
     | inr f ↦ subst (RoomFits w s' k) (sym (ap (λ c. cond c (room_settled (works g h) k r q) r) f)) (passed_by f)
   ]
 

@@ -9,7 +9,7 @@ use Rattle.batches.specs.Batches.{batch_right}
 use Rattle.wire.specs.Wire.{Posted}
 use Rattle.wire.specs.Calls.{next_entry}
 use Rattle.order.specs.Works.{no_post, works_of, master_of}
-use Rattle.agreement.specs.Houses.{Given, House, opened, works}
+use Rattle.agreement.specs.Houses.{Given, House, opened}
 use Rattle.agreement.specs.Calls.{Call, Answer, Answers, refuses, posts, numbers, hears, settles, runs, releases, installs, wishes, tells, picks, arriving, Performed, opens, also}
 use Rattle.agreement.proofs.Pictures.{Scene, Picture, Invariant, new_picture, picture_number, picture_hear, picture_settle, picture_run, picture_release, picture_install}
 use Rattle.agreement.proofs.Puts.{clash}

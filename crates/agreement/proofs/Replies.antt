@@ -12,7 +12,7 @@ use Rattle.wire.specs.Calls.{all_there, no_room, hear_cause, Chosen}
 use Rattle.order.specs.Works.{Works}
 use Rattle.agreement.specs.Rooms.{Room, heard_here, run_cause, Picks}
 use Rattle.agreement.specs.Houses.{Given, House, works}
-use Rattle.agreement.specs.Calls.{Call, post, number, hear, settle, pick, run, release, install, wish, amount, Answer, refused, done, settled, cause, Answers, refuses, posts, numbers, hears, settles, runs, releases, installs, wishes, tells, picks}
+use Rattle.agreement.specs.Calls.{Call, post, number, hear, settle, pick, run, release, install, wish, amount, Answer, refused, done, cause, Answers, refuses, posts, numbers, hears, settles, runs, releases, installs, wishes, tells, picks}
 use Rattle.agreement.specs.Answering.{kind_of, kind_taken, Sealed, Answered}
 use Rattle.agreement.proofs.Puts.{clash}
 use Rattle.agreement.proofs.Causes.{passed, passed_not, room_passed, some-none}

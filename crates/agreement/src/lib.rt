@@ -1,5 +1,7 @@
 // The state of a house, its calls, and the promise over every list of calls. The definitions stand in specs/; each
 // function here does nothing and is there for its contract, a theorem about them.
+#![tactic(auto)]
+
 ghost use Rattle.std.specs.Prelude.{ℕ};
 ghost use Rattle.agreement.specs.Answering.{Answered};
 ghost use Rattle.agreement.specs.Calls.{Call};

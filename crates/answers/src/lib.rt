@@ -1,4 +1,6 @@
 // Answer lines: what a line of a sheet is answered by, written in capital hexadecimal digits.
+#![tactic(auto)]
+
 pub mod layer;
 pub mod reply;
 pub mod write;

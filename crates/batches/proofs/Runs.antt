@@ -1,7 +1,7 @@
 -- The laws of a run, by induction over the steps: each step changes bases of the set alone, looks at these alone, and
 -- changes the total by what it adds or draws; the first step that is not done ends the run.
-use Rattle.std.proofs.Common.{◌≡◌, ℕ, zero, suc, ◌+◌, ◌-◌, ◌<◌, ◌≤◌, Bool, true, false, cond, not, ◌&&◌, eqb, ltb, leb, ◌⊎◌, List, [], ◌∷◌, length, get_or, take, sym, refl, ap, ◌∙◌, inl, inr, add-zero, arith}
-use Rattle.std.proofs.lemmas.Bool.{cases_Bool, and_parts, both_ways, ne_eqb, eqb-true, eqb-false, not-true}
+use Rattle.std.proofs.Common.{◌≡◌, ℕ, zero, suc, ◌+◌, ◌-◌, ◌<◌, ◌≤◌, true, false, cond, not, ◌&&◌, eqb, ltb, List, [], ◌∷◌, length, get_or, take, sym, refl, ap, ◌∙◌, inl, inr, add-zero, arith}
+use Rattle.std.proofs.lemmas.Bool.{cases_Bool, and_parts, ne_eqb, eqb-true, eqb-false, not-true}
 use Rattle.lists.specs.Words.{member, all, updated}
 use Rattle.sets.specs.Sets.{bases}
 use Rattle.sets.proofs.Bases.{base_below}
@@ -10,9 +10,9 @@ use Rattle.batches.specs.declared.outcome.Outcome.{Outcome}
 use Rattle.batches.specs.declared.outcome.Outcome.TheVariants.{Done, Short, Over}
 use Rattle.batches.specs.declared.step.Step.{Step}
 use Rattle.batches.specs.declared.step.Step.TheVariants.{Add, Draw, Move}
-use Rattle.batches.specs.Batches.{Batch, step_right, batch_right, amount_right}
-use Rattle.batches.specs.Runs.{Ran, step_outcome, step_after, go_on, run_from, run}
-use Rattle.batches.specs.Laws.{OthersStay, Alike, SameRun, OwnBasesCount, LimitHolds, Fails, DoneOrFails, stock_below, total, added, drawn, TotalFollows, WorkedRuns}
+use Rattle.batches.specs.Batches.{step_right, amount_right}
+use Rattle.batches.specs.Runs.{Ran, step_outcome, step_after, go_on, run_from}
+use Rattle.batches.specs.Laws.{OthersStay, Alike, SameRun, OwnBasesCount, LimitHolds, DoneOrFails, stock_below, total, added, drawn, TotalFollows}
 use Rattle.batches.proofs.Turns.{steps-right}
 
 short-done : Short ≡ Done → ⊥

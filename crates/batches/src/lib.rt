@@ -1,4 +1,6 @@
 // Batches: what is to be done to stock, written step by step, sealed, and run.
+#![tactic(auto)]
+
 pub mod draft;
 pub mod laws;
 pub mod outcome;

@@ -1,5 +1,7 @@
 // Runs the opening part of stored sheets, each up to the frame that opens its house, and compares every answer with the
 // stored one. The names of the sheets come from standard input, one a line.
+#![tactic(auto)]
+
 use sheets::Sheet;
 use sheets::line_reading::line_end;
 use std::alloc::{AllocError, Global};
@@ -50,7 +52,7 @@ fn opening_agrees(
             return Ok(None);
         }
         agreed = agreed.saturating_add(1);
-        if got == b"0400" {
+        if got == b"0400".as_slice() {
             break;
         }
     }

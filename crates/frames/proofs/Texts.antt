@@ -6,7 +6,7 @@ use Rattle.std.proofs.lemmas.List.{append_assoc, get_or_at, length_push}
 use Rattle.std.proofs.lemmas.Bool.Decides.{nat_tests}
 use Rattle.frames.specs.declared.frame.Frame.TheVariants.{Begin, PlanLine, Opening, Seal, Amount}
 use Rattle.frames.specs.Digits.{digit_value, digit_at, more_at, number_at}
-use Rattle.frames.specs.Writing.{character, digits, byte, word, text}
+use Rattle.frames.specs.Writing.{character, digits, byte, word}
 use Rattle.frames.specs.Laws.{TextsReadBack}
 
 pub character-value : (d : ℕ) → d < 16 → digit_value (character d) ≡ Some d

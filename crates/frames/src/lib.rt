@@ -1,4 +1,6 @@
 // The text layer: one line of hexadecimal digits is one frame, or a fault with its place.
+#![tactic(auto)]
+
 mod digits;
 pub mod frame;
 pub mod laws;

@@ -1,12 +1,12 @@
 -- Closing a gap: the loop moves one element after the other down by one, and `moved` is what the list is up to a place.
 -- At the last place it is the list with its gap closed, whose front is the list without the element.
-use Rattle.std.proofs.Common.{◌≡◌, ℕ, zero, suc, ◌+◌, ◌-◌, ◌<◌, ◌≤◌, true, false, not, eqb, List, [], ◌∷◌, ◌++◌, length, get_or, take, drop, set, sym, refl, ap, ◌∙◌, inl, inr, append_assoc, add-one, arith, length-append, take-append-drop, take-take}
+use Rattle.std.proofs.Common.{◌≡◌, ℕ, ◌+◌, ◌-◌, ◌<◌, ◌≤◌, true, false, eqb, List, [], ◌∷◌, ◌++◌, length, get_or, take, drop, set, sym, refl, ap, ◌∙◌, inl, inr, append_assoc, add-one, arith, length-append, take-append-drop, take-take}
 use lib.Seq.{take-append-add}
 use Rattle.std.specs.List.{between}
 use Rattle.std.proofs.lemmas.List.Edits.{between_none, between_more, length-between}
 use Rattle.std.proofs.lemmas.List.{take-append-le, drop-take, length-drop, length-take-le, drop_more, set_at, take_rest, take_all, get_or-append_right}
 use Rattle.std.proofs.lemmas.Bool.{cases_Bool, both_ways, eqb-true, eq-eqb}
-use Rattle.lists.specs.Words.{member, place, without, keep, Distinct}
+use Rattle.lists.specs.Words.{member, place, without, Distinct}
 use Rattle.lists.specs.Gaps.{without_at, closed}
 
 module _ {X : Type 0} where

@@ -1,4 +1,6 @@
 // Words on lists that the layers above share, and the one removal that closes a gap.
+#![tactic(auto)]
+
 ghost use Rattle.std.specs.Prelude.{◌≡◌, ◌<◌, ◌≤◌, length, MatchOption};
 ghost use Rattle.std.specs.List.{slice_get};
 ghost use Rattle.lists.specs.Gaps.{closed};

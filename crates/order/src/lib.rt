@@ -1,5 +1,7 @@
 // The house order and the serial run. The definitions stand in specs/; each function here does nothing and is there for
 // its contract, a law about them.
+#![tactic(auto)]
+
 ghost use Rattle.order.specs.Laws.{OrderIsItsLaw, NumberingAppends, LateInsertion, ChoicesAgree};
 ghost use Rattle.order.specs.Examples.{WorkedExamples};
 

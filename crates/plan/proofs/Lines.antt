@@ -1,6 +1,6 @@
 -- Lines of a plan: a line taken at the end keeps the plan right, and the masters are those of the lines.
 -- Both by induction over the lines; a set that no earlier line has changes no earlier answer.
-use Rattle.std.proofs.Common.{◌≡◌, ℕ, zero, suc, ◌+◌, ◌<◌, ◌≤◌, Bool, true, false, cond, not, ◌&&◌, ◌||◌, eqb, ltb, leb, ◌⊎◌, List, [], ◌∷◌, ◌++◌, length, get_or, take, drop, set, Some, None, sym, refl, ap, ◌∙◌, inl, inr, arith}
+use Rattle.std.proofs.Common.{◌≡◌, ℕ, zero, suc, ◌+◌, ◌<◌, ◌≤◌, Bool, true, false, not, ◌&&◌, ◌||◌, eqb, ltb, leb, List, [], ◌∷◌, ◌++◌, length, get_or, take, drop, set, Some, None, sym, refl, ap, ◌∙◌, inl, inr, arith}
 use Rattle.std.proofs.lemmas.List.{at_drop_more, at_drop_all, take_more_set, length-take-le}
 use Rattle.std.proofs.lemmas.Bool.{cases_Bool, and_parts, and_from, eqb-true, eq-eqb, ne_eqb, not-true, leb-false, lt-ltb, ltb-true, both_ways}
 use Rattle.lists.specs.Words.{all}
@@ -8,7 +8,7 @@ use Rattle.refusals.specs.Causes.{first_cause}
 use Rattle.refusals.specs.declared.refusal.Refusal.TheVariants.{OutOfRange, SetSize, SetPlanned, PlanFull}
 use Rattle.sets.specs.Sets.{sized}
 use Rattle.plan.specs.declared.line.PlanLine.{PlanLine}
-use Rattle.plan.specs.Plan.{Plan, master_in, planned, plan_right, line_right, each_once, with_line, line_cause}
+use Rattle.plan.specs.Plan.{Plan, master_in, planned, plan_right, line_right, each_once, line_cause}
 use Rattle.plan.specs.Laws.{Follows}
 
 -- the search for a set's line: found at a place, passed there, at the end

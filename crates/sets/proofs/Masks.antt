@@ -1,6 +1,6 @@
 -- The two tests by masks say what the definitions say by bases: by induction over the bits, from the lowest on.
-use Rattle.std.proofs.Common.{◌≡◌, ℕ, zero, suc, ◌+◌, ◌*◌, ◌/◌, ◌%◌, ◌^◌, ◌<◌, min, Bool, true, false, cond, not, ◌&&◌, ◌||◌, eqb, ◌⊎◌, sym, refl, ap, ◌∙◌, inl, inr, div-one, arith}
-use lib.Bits.{bit_and, and_step, and_zero_l}
+use Rattle.std.proofs.Common.{◌≡◌, ℕ, zero, suc, ◌+◌, ◌*◌, ◌/◌, ◌%◌, ◌^◌, ◌<◌, min, Bool, cond, not, ◌&&◌, ◌||◌, eqb, sym, ap, ◌∙◌, inl, inr, div-one, arith}
+use lib.Bits.{bit_and, and_step}
 use Rattle.std.proofs.lemmas.Bool.{cases_Bool}
 use Rattle.lists.specs.Words.{any, all, keep, rising}
 use Rattle.sets.specs.Sets.{has, bases, within, shares}

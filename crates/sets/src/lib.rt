@@ -1,4 +1,6 @@
 // Sets of bases as 32-bit masks: bit x, counted from the lowest, stands for base x.
+#![tactic(auto)]
+
 ghost use Rattle.std.specs.Prelude.{◌≡◌, ◌^◌, ◌<◌, [], ◌∷◌, MatchOption};
 ghost use Rattle.lists.specs.Words.{member};
 ghost use Rattle.sets.specs.Sets.{bases, size, sized, within, shares};

@@ -1,8 +1,7 @@
 -- A number that is no wire's kind is refused.
-use Rattle.std.proofs.Common.{◌≡◌, ℕ, zero, suc, Bool, true, false, cond, not, ◌&&◌, leb, Some, None, Ok, Err, Option, Result, sym, refl, ap, ◌∙◌, arith}
+use Rattle.std.proofs.Common.{◌≡◌, ℕ, zero, suc, true, Some, None, Ok, Err, Result, refl, ap, ◌∙◌, arith}
 use Rattle.std.specs.Result.{result_err}
 use Rattle.refusals.specs.declared.refusal.Refusal.{Refusal}
-use Rattle.refusals.specs.declared.refusal.Refusal.TheVariants.{OutOfRange}
 use Rattle.wires.specs.Kinds.{kind_number, KindRead}
 use Rattle.wires.specs.declared.kind.WireKind.{WireKind}
 use Rattle.wires.specs.declared.kind.WireKind.TheVariants.{Sequenced, Turn, Directed}

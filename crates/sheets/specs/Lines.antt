@@ -1,5 +1,5 @@
 -- What one line of a sheet does: it is read, its frame is in turn or not, and the house takes it or refuses it.
-use Rattle.std.specs.Prelude.{◌≡◌, ℕ, ◌+◌, ◌-◌, ◌^◌, ◌<◌, ◌≤◌, min, Bool, cond, List, [], length, Some, None, Ok, Err, Option, Result}
+use Rattle.std.specs.Prelude.{◌≡◌, ℕ, ◌+◌, ◌-◌, ◌^◌, ◌<◌, min, cond, List, length, Some, None, Ok, Err, Option, Result}
 use Rattle.refusals.specs.Causes.{number_of}
 use Rattle.refusals.specs.declared.refusal.Refusal.{Refusal}
 use Rattle.refusals.specs.declared.refusal.Refusal.TheVariants.{NotAFrame, OutOfTurn}
@@ -14,7 +14,7 @@ use Rattle.sheets.specs.declared.fault.Fault.{Fault}
 use Rattle.sheets.specs.declared.fault.Fault.TheVariants.{Text, Turn, House}
 use Rattle.sheets.specs.declared.fault.LineFault.{LineFault}
 use Rattle.sheets.specs.declared.fault.LineFault.TheVariants.{AnswerBuffer, Refused}
-use Rattle.sheets.specs.Sheet.{Sheet, Stage, blank}
+use Rattle.sheets.specs.Sheet.{Sheet, blank}
 use Rattle.sheets.specs.Steps.{in_turn, frame_cause, frame_reply, after_frame}
 
 -- a new sheet: no line, no plan, and nothing in stock

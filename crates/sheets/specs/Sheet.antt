@@ -10,7 +10,7 @@ pub data Stage : Type 0 where
   -- a plan is being written, for a house over a wire of a kind
   planning : Plan → ℕ → Stage
   -- the house is open: its plan, the kind of its wire, and each room's book
-  open_house_lem : Plan → ℕ → List Stock → Stage
+  open_house : Plan → ℕ → List Stock → Stage
 
 pub record Sheet : Type 0 where
   -- how many lines it has had

@@ -1,33 +1,33 @@
 -- What a line of a sheet does: the three layers, one after another.
-use Rattle.std.specs.Prelude.{◌≡◌, ℕ, ◌+◌, ◌-◌, ◌^◌, min, Bool, true, false, cond, not, ◌&&◌, ◌||◌, List, [], ◌∷◌, map, length, Some, None, Ok, Err, Option, Result, nat_le, nat_lt, slice_index_or}
+use Rattle.std.specs.Prelude.{◌≡◌, ℕ, Bool, true, false, cond, not, ◌&&◌, ◌||◌, List, [], ◌∷◌, map, length, Some, None, Ok, Err, Option, Result, nat_le, nat_lt, slice_index_or}
 use Rattle.lists.specs.Words.{updated, rising}
 use Rattle.refusals.specs.Causes.{first_cause, answer}
 use Rattle.refusals.specs.declared.refusal.Refusal.{Refusal}
 use Rattle.refusals.specs.declared.refusal.Refusal.TheVariants.{OutOfRange, OverLimit}
 use Rattle.plan.specs.Plan.{Plan, line_cause, with_line}
-use Rattle.stock.specs.Stock.{Amounts, Stock, amount_of}
+use Rattle.stock.specs.Stock.{Amounts, Stock}
 use Rattle.frames.specs.declared.frame.Frame.{Frame}
 use Rattle.frames.specs.declared.frame.Frame.TheVariants.{Begin, PlanLine, Opening, Seal, Amount}
 use Rattle.answers.specs.declared.reply.Reply.{Reply}
 use Rattle.answers.specs.declared.reply.Reply.TheVariants.{Done, Amount as AmountReply}
-use Rattle.sheets.specs.Sheet.{Sheet, Stage, blank, planning, open_house_lem}
+use Rattle.sheets.specs.Sheet.{Sheet, Stage, blank, planning, open_house}
 
 -- which frames are in turn
 
 abbrev pub is_blank : Stage → Bool
 is_blank blank = true
 is_blank (planning plan wire) = false
-is_blank (open_house_lem plan wire books) = false
+is_blank (open_house plan wire books) = false
 
 abbrev pub is_planning : Stage → Bool
 is_planning blank = false
 is_planning (planning plan wire) = true
-is_planning (open_house_lem plan wire books) = false
+is_planning (open_house plan wire books) = false
 
 abbrev pub is_open : Stage → Bool
 is_open blank = false
 is_open (planning plan wire) = false
-is_open (open_house_lem plan wire books) = true
+is_open (open_house plan wire books) = true
 
 -- a plan is begun on a blank sheet, written and sealed after that, and a house answers once it is open
 abbrev pub in_turn : Stage → Frame → Bool
@@ -42,17 +42,17 @@ in_turn stage (Amount room base) = is_open stage
 abbrev pub stage_plan : Stage → Plan
 stage_plan blank = record { rooms = 0; lines = [] }
 stage_plan (planning plan wire) = plan
-stage_plan (open_house_lem plan wire books) = plan
+stage_plan (open_house plan wire books) = plan
 
 abbrev pub stage_wire : Stage → ℕ
 stage_wire blank = 0
 stage_wire (planning plan wire) = wire
-stage_wire (open_house_lem plan wire books) = wire
+stage_wire (open_house plan wire books) = wire
 
 abbrev pub stage_books : Stage → List Stock
 stage_books blank = []
 stage_books (planning plan wire) = []
-stage_books (open_house_lem plan wire books) = books
+stage_books (open_house plan wire books) = books
 
 abbrev pub no_book : Stock
 no_book = record { amounts = (λ _. 0); spare = 0 }
@@ -101,7 +101,7 @@ after_frame s (Opening base amount) = record { lines = s.lines; opening = update
 after_frame s Seal = record {
   lines = s.lines;
   opening = s.opening;
-  stage = open_house_lem (stage_plan s.stage) (stage_wire s.stage) (map (new_book s.opening) (rising 0 (stage_plan s.stage).rooms));
+  stage = open_house (stage_plan s.stage) (stage_wire s.stage) (map (new_book s.opening) (rising 0 (stage_plan s.stage).rooms));
 }
 after_frame s (Amount room base) = s
 

@@ -1,4 +1,6 @@
 // Sheets: one line in, one answer line out.
+#![tactic(auto)]
+
 mod acting;
 mod answering;
 pub mod fault;

@@ -1,4 +1,6 @@
 // Reads a shift sheet from standard input, and writes the answer to each line to standard output.
+#![tactic(auto)]
+
 use sheets::line_reading::line_end;
 use sheets::{LineBuffer, Sheet};
 use std::io;

@@ -7,7 +7,7 @@ use Rattle.refusals.specs.declared.refusal.Refusal.{Refusal}
 use Rattle.sets.specs.Sets.{size}
 use Rattle.stock.specs.Stock.{Stock, Writing, write_cause, over_limit}
 use Rattle.stock.specs.BySet.{write_set_cause}
-use Rattle.stock.specs.Bounds.{small-get_or}
+use Rattle.stock.proofs.Bounds.{small-get_or}
 
 -- a call that is taken is not refused
 never_both : {cause : Option Refusal} {e : Refusal} → cause ≡ None → cause ≡ Some e → ⊥

@@ -1,3 +1,4 @@
+pub mod Bounds
 pub mod Replays
 pub mod Causes
 pub mod Places

@@ -3,7 +3,7 @@ use Rattle.std.proofs.Common.{◌≡◌, ℕ, zero, suc, ◌+◌, ◌-◌, ◌<�
 use Rattle.std.proofs.lemmas.List.{length-set, length-append, length-map, length-replicate, length-take-le, length-drop, drop_more, get_or-take, get_or-map, get_or_past, get_or-set_same, get_or-set_other, ext_get_or, take_all}
 use Rattle.std.proofs.lemmas.Bool.{cases_lt}
 use Rattle.stock.specs.Stock.{Amounts}
-use Rattle.stock.specs.Bounds.{get_or-zeros}
+use Rattle.stock.proofs.Bounds.{get_or-zeros}
 
 -- the first of what is left of a list after k stands at k
 pub head_at : (xs ys : List ℕ) (k y : ℕ) → drop k xs ≡ y ∷ ys → (k < length xs) × (get_or xs k 0 ≡ y) × (drop (k + 1) xs ≡ ys)

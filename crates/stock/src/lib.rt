@@ -1,4 +1,6 @@
 // Stock books: how much of each base a room's copy of the stock shows.
+#![tactic(auto)]
+
 pub mod book;
 pub mod by_set;
 pub mod entry;

@@ -1,8 +1,8 @@
 // One type that is a book of either kind, so that the rooms of one house can mix them.
 ghost use Rattle.stock.specs.StockBook.{book_holds, BookLeaves};
-ghost use Rattle.stock.specs.declared.stock_book.StockBook.TheVariants.{Table as a-table, Journal as a-journal};
+ghost use Rattle.stock.specs.declared.stock_book.StockBook.TheVariants.{Table as a_table, Journal as a_journal};
 ghost use Rattle.stock.specs.Table.{table_items};
-ghost use Rattle.stock.specs.Bounds.{amounts_in-none};
+ghost use Rattle.stock.specs.Beyond.{amounts_in-none};
 
 use crate::book::Book;
 use crate::journal::Journal;
@@ -22,8 +22,8 @@ impl Book for StockBook {
     ghost leaves = { BookLeaves };
 
     ghost sound = { elim [
-      | a-table t ↦ record { small = t.small; none_above = amounts_in-none (table_items t) }
-      | a-journal j ↦ record { small = j.small; none_above = j.beyond }
+      | a_table t ↦ record { small = t.small; none_above = amounts_in-none (table_items t) }
+      | a_journal j ↦ record { small = j.small; none_above = j.beyond }
     ] };
 
     fn amount(&self, base: u8) -> Result<u32, Refusal> {

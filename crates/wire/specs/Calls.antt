@@ -1,6 +1,6 @@
 -- What each call of a wire does, and why it is refused. Which batch numbering and tentative telling choose is left open:
 -- any posted batch that is not in the list yet.
-use Rattle.std.specs.Prelude.{◌≡◌, ℕ, ◌+◌, ◌<◌, ◌≤◌, Bool, true, false, not, ◌&&◌, ◌||◌, ltb, leb, List, [], ◌∷◌, ◌++◌, length, Some, None, Ok, Err, Option, Result, nat_eq, nat_le, nat_lt, slice_index, slice_index_or}
+use Rattle.std.specs.Prelude.{◌≡◌, ℕ, ◌+◌, ◌<◌, ◌≤◌, Bool, true, false, not, ◌&&◌, ◌||◌, ltb, leb, List, [], ◌∷◌, ◌++◌, length, Option, nat_eq, nat_le, nat_lt, slice_index, slice_index_or}
 use Rattle.lists.specs.Words.{any, all, member, updated, rising, Distinct}
 use Rattle.refusals.specs.Causes.{first_cause}
 use Rattle.refusals.specs.declared.refusal.Refusal.{Refusal}

@@ -1,4 +1,6 @@
 // The wire: what carries batches and announcements between the rooms.
+#![tactic(auto)]
+
 pub mod announcement;
 pub mod wire;
 

@@ -1,5 +1,7 @@
 // Runs the three wires on the same three posts, batch 0 by room 1, batch 1 by room 0, batch 2 by room 1, and prints in
 // which order each numbers them and tells them to rooms; and what becomes of wishes on the directed wire.
+#![tactic(auto)]
+
 use batches::{BatchDraft, SealedBatch, Step};
 use refusals::Refusal;
 use std::alloc::{AllocError, Global};

@@ -1,5 +1,5 @@
 -- What the causes of a call tell where it is taken.
-use Rattle.std.proofs.Common.{◌≡◌, ℕ, ◌<◌, ◌≤◌, Bool, true, false, cond, not, length, Some, None, Option, refl, arith}
+use Rattle.std.proofs.Common.{◌≡◌, ℕ, ◌<◌, Bool, true, false, cond, length, Some, None, Option, refl, arith}
 use Rattle.std.proofs.lemmas.Bool.{ltb-true, ltb-false, not-false, and_parts, or_parts}
 use Rattle.refusals.specs.declared.refusal.Refusal.{Refusal}
 use Rattle.wire.specs.Wire.{Wire}

@@ -1,1 +1,10 @@
+pub mod Words
+pub mod Marks
 pub mod Causes
+pub mod Sounds
+pub mod Pages
+pub mod Ledgers
+pub mod Scans
+pub mod Rounds
+pub mod Preferences
+pub mod Chooses

@@ -5,12 +5,4 @@ pub mod Orders
 pub mod Kinds
 pub mod AnyPolicies
 pub mod Examples
-pub mod Preferences
-pub mod Words
-pub mod Rounds
-pub mod Scans
-pub mod Chooses
-pub mod Ledgers
-pub mod Marks
-pub mod Pages
-pub mod Sounds
+pub mod Laws

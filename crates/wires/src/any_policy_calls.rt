@@ -2,7 +2,7 @@ ghost use Rattle.std.specs.Prelude.{◌≡◌};
 ghost use Rattle.wires.specs.AnyPolicies.{any_numbers, any_tells, any_served, any_heard, any_wished, any_fresh};
 ghost use Rattle.wires.specs.declared.kind.WireKind.TheVariants as kinds;
 ghost use Rattle.wires.specs.declared.any_policy.AnyPolicy.TheVariants.{Sequenced, Turn, Directed};
-ghost use Rattle.wires.specs.Preferences.{left_orders, left_round_orders, wish_first_orders, own_first_orders};
+ghost use Rattle.wires.specs.Laws.{left_orders, left_round_orders, wish_first_orders, own_first_orders};
 
 use crate::any_policy::AnyPolicy;
 use crate::batch_list::BatchList;

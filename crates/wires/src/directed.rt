@@ -1,7 +1,7 @@
 ghost use Rattle.std.specs.Prelude.{◌≡◌, map, Some, None};
 ghost use Rattle.wires.specs.Orders.{head, wish_first};
 ghost use Rattle.wires.specs.Parts.{numbers_of, posted_of};
-ghost use Rattle.wires.specs.Preferences.{wish_first_orders};
+ghost use Rattle.wires.specs.Laws.{wish_first_orders};
 
 use crate::batch_list::BatchList;
 use crate::policy::Policy;

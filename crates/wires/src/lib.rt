@@ -1,4 +1,6 @@
 // Three wires: a ledger that keeps everything but the choice, and three policies that choose.
+#![tactic(auto)]
+
 pub mod any_policy;
 pub mod any_policy_calls;
 pub mod any_wire;

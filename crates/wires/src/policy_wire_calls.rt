@@ -6,7 +6,7 @@ ghost use Rattle.wire.specs.Wire.{new_wire};
 ghost use Rattle.wire.specs.Promises.{Posting, Numbering, Hearing, Telling, Announcing, Looking, Taking, posted_batch};
 ghost use Rattle.wires.specs.Meaning.{meaning_of};
 ghost use Rattle.wires.specs.Orders.{poster, ByOrder};
-ghost use Rattle.wires.specs.Chooses.{sound_of};
+ghost use Rattle.wires.specs.Laws.{sound_of};
 
 use crate::ledger::Ledger;
 use crate::policy::Policy;

@@ -1,6 +1,5 @@
 ghost use Rattle.wires.specs.Orders.{left, own_first};
-ghost use Rattle.wires.specs.Preferences.{own_first_orders};
-ghost use Rattle.std.proofs.Common.{rules};
+ghost use Rattle.wires.specs.Laws.{left_orders, own_first_orders};
 
 use crate::batch_list::BatchList;
 use crate::policy::Policy;
@@ -23,7 +22,7 @@ impl Policy for Sequenced {
 
     ghost wished = { λ p batch. p };
 
-    ghost numbering = { Prim.search rules };
+    ghost numbering = { λ p posts list. left_orders posts list };
 
     ghost telling = { λ p posts list room. own_first_orders posts list room };
 

@@ -1,6 +1,6 @@
 ghost use Rattle.std.specs.Prelude.{◌+◌, ◌%◌};
 ghost use Rattle.wires.specs.Orders.{left_round};
-ghost use Rattle.wires.specs.Preferences.{left_round_orders};
+ghost use Rattle.wires.specs.Laws.{left_round_orders};
 
 use crate::batch_list::BatchList;
 use crate::policy::Policy;

@@ -1,4 +1,4 @@
-use Rattle.std.proofs.Common.{length, sym, refl, rules}
+use Rattle.std.proofs.Common.{length, sym, refl}
 use Rattle.std.proofs.lemmas.Option.{slice_get_past, slice_get_read}
 use Rattle.lists.proofs.item_at.Goals as goal
 

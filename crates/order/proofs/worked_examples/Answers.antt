@@ -1,6 +1,6 @@
 use Rattle.std.proofs.Common.{refl}
 use Rattle.sets.specs.Sets.{bases}
-use Rattle.batches.specs.Laws.{ComesTo, WorkedRuns}
+use Rattle.batches.specs.Laws.{WorkedRuns}
 use Rattle.order.proofs.worked_examples.Goals as goal
 
 runs : WorkedRuns

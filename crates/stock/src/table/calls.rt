@@ -1,8 +1,8 @@
 // Opening, reading, writing and closing a table.
 ghost use Rattle.std.specs.Prelude.{◌≡◌, MatchResult};
 ghost use Rattle.stock.specs.Openings.{HandedBack};
+ghost use Rattle.stock.specs.Beyond.{amounts_in-none};
 ghost use Rattle.stock.specs.Table.{table_items, table_holds, table_cause, TableOpened, TableLeaves};
-ghost use Rattle.std.proofs.Common.{rules, arith};
 
 use super::Table;
 use crate::book::Book;
@@ -56,7 +56,7 @@ impl Book for Table {
 
     ghost leaves = { TableLeaves };
 
-    ghost sound = { first_of (Prim.search rules, Prim.grind (arith, Self.row.coded.inj)) };
+    ghost sound = { λ t. record { small = t.small; none_above = amounts_in-none (table_items t) } };
 
     fn amount(&self, base: u8) -> Result<u32, Refusal> {
         if base > LAST_BASE {

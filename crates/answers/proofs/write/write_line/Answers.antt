@@ -1,4 +1,4 @@
-use Rattle.std.proofs.Common.{◌≡◌, ◌<◌, length, refl, subst, arith}
+use Rattle.std.proofs.Common.{◌≡◌, length, refl, subst, arith}
 use Rattle.answers.proofs.Spelling.{Written, one_byte, line_feed}
 use Rattle.answers.proofs.write.write_line.Goals as goal
 

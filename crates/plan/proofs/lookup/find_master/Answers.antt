@@ -1,4 +1,3 @@
-use Rattle.std.proofs.Common.{arith}
 use Rattle.plan.proofs.Lines.{search_found, search_passed, search_over}
 use Rattle.plan.proofs.lookup.find_master.Goals as goal
 

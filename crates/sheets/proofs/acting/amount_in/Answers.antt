@@ -1,4 +1,4 @@
-use Rattle.std.proofs.Common.{◌≡◌, true, leb, map, length, sym, ◌∙◌, arith}
+use Rattle.std.proofs.Common.{◌≡◌, true, leb, map, length, ◌∙◌, arith}
 use Rattle.std.proofs.lemmas.List.{length-map}
 use Rattle.std.proofs.lemmas.Bool.{le-leb}
 use Rattle.stock.specs.StockBook.{book_holds}

@@ -1,8 +1,8 @@
-use Rattle.std.proofs.Common.{◌≡◌, ◌≤◌, length, get_or, set, sym, refl, ap, ◌∙◌, arith}
+use Rattle.std.proofs.Common.{◌≡◌, ◌≤◌, length, get_or, sym, refl, ap, ◌∙◌, arith}
 use Rattle.std.proofs.lemmas.List.{length-drop}
 use Rattle.sets.specs.Sets.{bases}
 use Rattle.stock.specs.Stock.{amounts_in}
-use Rattle.stock.specs.Bounds.{get_or-zeros, amounts_in_base}
+use Rattle.stock.proofs.Bounds.{get_or-zeros, amounts_in_base}
 use Rattle.stock.proofs.Packings.{head_at, packing_more, packing_done, packed-whole}
 use Rattle.stock.proofs.by_set.pack.Goals as goal
 
@@ -27,11 +27,11 @@ returns-after-loop-k c =
     let value = packing_done bs m c.loop-k.k c.loop-k.packed c.loop-k.invariant.1 (λ j g h. absurd (omega arith)) in
     record { value = value; whole = λ h. value ∙ packed-whole bs m h }
 
-pub returns-in-default : goal.returns-in-default
-returns-in-default c =
+pub returns-in_default : goal.returns-in_default
+returns-in_default c =
     let bs = bases c.args.set in
     let m = amounts_in c.args.amounts.now in
-    let none = ap length (sym c.loop-k.invariant.0 ∙ c.in-default.ensures) in
+    let none = ap length (sym c.loop-k.invariant.0 ∙ c.in_default.ensures) in
     let few : length bs ≤ c.loop-k.k = omega (arith, length-drop c.loop-k.k bs) in
     let value = packing_done bs m c.loop-k.k c.loop-k.packed c.loop-k.invariant.1 (λ j g h. omega arith) in
     record { value = value; whole = λ h. value ∙ packed-whole bs m h }

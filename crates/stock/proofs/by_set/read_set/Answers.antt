@@ -1,7 +1,7 @@
 use Rattle.std.proofs.Common.{cond, refl, ap}
 use Rattle.lists.specs.Words.{member}
 use Rattle.sets.specs.Sets.{bases}
-use Rattle.stock.specs.Bounds.{amounts_in-zeros}
+use Rattle.stock.proofs.Bounds.{amounts_in-zeros}
 use Rattle.stock.proofs.by_set.read_set.Goals as goal
 
 pub loop-base-init : goal.loop-base-init

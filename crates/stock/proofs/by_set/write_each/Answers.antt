@@ -39,7 +39,7 @@ pub returns : goal.returns
 returns g c =
     let values = c.args.amounts.now in
     let before = g.B.Book.holds c.args.book.now in
-    let none = c.in-default.ensures in
+    let none = c.in_default.ensures in
     let zero = ap length none in
     let spent = c.loop-base.invariant.2 in
     record {

@@ -1,5 +1,5 @@
-use Rattle.std.proofs.Common.{◌≡◌, ℕ, ◌-◌, ◌≤◌, vec_items, vec_len, vec_capacity}
-use Rattle.wires.specs.Kept.{Kept, blank}
+use Rattle.std.proofs.Common.{◌≡◌, ◌-◌, ◌≤◌, vec_items, vec_len, vec_capacity}
+use Rattle.wires.specs.Kept.{blank}
 use Rattle.wires.specs.Parts.{kept_in}
 use Rattle.wires.proofs.ledger_calls.open_pages.Given as goal
 

@@ -1,7 +1,7 @@
-use Rattle.std.proofs.Common.{◌≡◌, arith, rules}
+use Rattle.std.proofs.Common.{rules}
 use Rattle.batches.specs.Sealed.{batch_of}
 use Rattle.batches.proofs.Turns.{steps_low}
 use Rattle.batches.proofs.sealed.SealedBatch.run.Goals as goal
 
-pub make-steps-requires : goal.make-steps-requires
-make-steps-requires c = let low = steps_low (batch_of c.args.self.now) c.args.self.now.right in record { few = search rules; low = search rules }
+pub make_steps-requires : goal.make_steps-requires
+make_steps-requires c = let low = steps_low (batch_of c.args.self.now) c.args.self.now.right in record { few = search rules; low = search rules }

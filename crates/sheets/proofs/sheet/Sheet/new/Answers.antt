@@ -1,4 +1,4 @@
-use Rattle.std.proofs.Common.{ℕ, ap}
+use Rattle.std.proofs.Common.{ap}
 use Rattle.stock.specs.Stock.{Amounts}
 use Rattle.sheets.specs.Sheet.{Sheet, blank}
 use Rattle.sheets.proofs.Books.{amounts-none}

@@ -1,8 +1,15 @@
 use Rattle.std.proofs.Common.{arith, rules}
-use Rattle.stock.specs.Bounds.{small_in, amounts_in-none}
+use Rattle.stock.proofs.Bounds.{small_in}
+use Rattle.stock.specs.Beyond.{amounts_in-none}
 use Rattle.stock.proofs.journal.Journal.open.Goals as goal
 
-pub invariant-of-result : goal.invariant-of-result
-invariant-of-result c =
+pub invariant_of-result : goal.invariant_of-result
+invariant_of-result c =
     let xs = c.args.opening.now in
-    (omega arith, (omega arith, (omega arith, ((λ x. small_in xs x (search rules)), ((λ x h. amounts_in-none xs x h), tt)))))
+    record {
+      long = omega arith;
+      short = omega arith;
+      within = omega arith;
+      small = λ x. small_in xs x (search rules);
+      beyond = λ x h. amounts_in-none xs x h;
+    }

@@ -1,4 +1,4 @@
-use Rattle.std.proofs.Common.{false, sym, ◌∙◌, arith, rules}
+use Rattle.std.proofs.Common.{false, arith, rules}
 use Rattle.std.proofs.lemmas.List.{get_or_past}
 use Rattle.wires.proofs.batch_list.BatchList.holds.Goals as goal
 

@@ -2,7 +2,7 @@ use Rattle.std.proofs.Common.{not, ◌&&◌, length, sym, ap, ◌∙◌}
 use Rattle.std.proofs.lemmas.Bool.{lt-ltb, le-ltb}
 use Rattle.lists.specs.Words.{member}
 use Rattle.wires.specs.Parts.{numbers_of}
-use Rattle.wires.specs.Preferences.{left-member}
+use Rattle.wires.proofs.Preferences.{left-member}
 use Rattle.wires.proofs.batch_list.BatchList.leaves.Goals as goal
 
 pub returns-then-batch-posts : goal.returns-then-batch-posts

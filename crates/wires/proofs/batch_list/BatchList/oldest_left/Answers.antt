@@ -1,8 +1,8 @@
-use Rattle.std.proofs.Common.{true, false, length, sym, ◌∙◌}
+use Rattle.std.proofs.Common.{length, sym, ◌∙◌}
 use Rattle.std.proofs.lemmas.Bool.{not_from_true, not_from_false}
 use Rattle.lists.specs.Words.{member}
 use Rattle.wires.specs.Parts.{numbers_of}
-use Rattle.wires.specs.Scans.{lacks, scan-found, scan_more, scan-none, left-scan}
+use Rattle.wires.proofs.Scans.{lacks, scan-found, scan_more, scan-none, left-scan}
 use Rattle.wires.proofs.batch_list.BatchList.oldest_left.Goals as goal
 
 pub returns-then-not-holds : goal.returns-then-not-holds

@@ -1,6 +1,6 @@
 use Rattle.std.proofs.Common.{◌≡◌, length}
 use Rattle.wires.specs.Parts.{numbers_of}
-use Rattle.wires.specs.Scans.{scan, lacks}
+use Rattle.wires.proofs.Scans.{scan, lacks}
 use Rattle.wires.proofs.batch_list.BatchList.oldest_left.Given as goal
 
 -- what is left to scan gives the answer

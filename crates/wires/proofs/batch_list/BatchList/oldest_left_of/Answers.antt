@@ -1,9 +1,8 @@
-use Rattle.std.proofs.Common.{◌≡◌, Bool, true, false, not, ◌&&◌, eqb, map, length, sym, refl, ap, ◌∙◌}
+use Rattle.std.proofs.Common.{◌≡◌, false, not, map, length, sym, ap, ◌∙◌}
 use Rattle.std.proofs.lemmas.Bool.{and_from, and_left, and_right, eq-eqb, ne_eqb, not_from_true, not_from_false}
 use Rattle.lists.specs.Words.{member}
-use Rattle.wires.specs.Orders.{poster}
 use Rattle.wires.specs.Parts.{numbers_of, posted_of}
-use Rattle.wires.specs.Scans.{lacks_of, scan-found, scan_more, scan-none, left_of-scan, poster-read}
+use Rattle.wires.proofs.Scans.{lacks_of, scan-found, scan_more, scan-none, left_of-scan, poster-read}
 use Rattle.wires.proofs.batch_list.BatchList.oldest_left_of.Goals as goal
 use Rattle.wires.proofs.batch_list.BatchList.oldest_left_of.Goals.{else-posts-batch-via-then-posts-batch+else-not-holds, else-posts-batch-via-else-posts-batch}
 

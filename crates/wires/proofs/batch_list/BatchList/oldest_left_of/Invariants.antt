@@ -1,6 +1,6 @@
 use Rattle.std.proofs.Common.{◌≡◌, map, length}
 use Rattle.wires.specs.Parts.{numbers_of, posted_of}
-use Rattle.wires.specs.Scans.{scan, lacks_of}
+use Rattle.wires.proofs.Scans.{scan, lacks_of}
 use Rattle.wires.proofs.batch_list.BatchList.oldest_left_of.Given as goal
 
 -- what is left to scan gives the answer

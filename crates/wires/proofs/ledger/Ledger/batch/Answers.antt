@@ -1,10 +1,9 @@
-use Rattle.std.proofs.Common.{map, Some, vec_items, sym, ap, ◌∙◌, arith}
-use Rattle.std.proofs.lemmas.List.{get_or-map}
-use Rattle.std.proofs.lemmas.Option.{slice_get-get_or, slice_get_past}
+use Rattle.std.proofs.Common.{map, vec_items, sym, ap, arith}
+use Rattle.std.proofs.lemmas.Option.{slice_get_past}
 use Rattle.std.specs.Option.{option_map}
 use Rattle.wire.specs.Wire.{Posted}
 use Rattle.wires.specs.Parts.{posted_of}
-use Rattle.wires.specs.Ledgers.{posts-len, post_read}
+use Rattle.wires.proofs.Ledgers.{posts-len, post_read}
 use Rattle.wires.proofs.ledger.Ledger.batch.Goals as goal
 
 pub returns-then-place-len : goal.returns-then-place-len

@@ -1,6 +1,6 @@
 use Rattle.std.proofs.Common.{false, vec_items, ◌∙◌, arith}
 use Rattle.std.proofs.lemmas.List.{get_or_read}
-use Rattle.wires.specs.Ledgers.{batch-below, marked_is}
+use Rattle.wires.proofs.Ledgers.{batch-below, marked_is}
 use Rattle.wires.proofs.ledger.Ledger.is_announced.Goals as goal
 
 pub index-requires : goal.index-requires

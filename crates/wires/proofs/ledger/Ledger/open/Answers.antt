@@ -1,18 +1,25 @@
 use Rattle.std.proofs.Common.{vec_items, sym, subst, rules}
 use Rattle.wire.specs.Calls.{Sound}
 use Rattle.wires.specs.Parts.{numbers_of}
-use Rattle.wires.specs.Ledgers.{open_after, marked-none, counted_none}
-use Rattle.wires.specs.Sounds.{new-sound}
+use Rattle.wires.proofs.Ledgers.{open_after, marked-none, counted_none}
+use Rattle.wires.proofs.Sounds.{new-sound}
 use Rattle.wires.proofs.ledger.Ledger.open.Goals as goal
 
-pub invariant-of-result : goal.invariant-of-result
-invariant-of-result c =
-    let posts = c.in-ok-posts.ensures in
-    let pages = c.in-ok-pages.ensures in
-    let after = open_after (vec_items c.in-ok-posts.posts) (numbers_of c.in-ok-definitive.definitive) (vec_items c.in-ok-pages.pages) posts.items c.in-ok-definitive.ensures pages.1 in
-    let marks = c.in-ok-announced.ensures.items-if-clones-equal (λ y e. e) in
-    (search rules, (search rules, (search rules, (∣ subst Sound (sym after) new-sound ∣₁, (marked-none (vec_items c.in-ok-pages.pages) (vec_items c.in-ok-announced.announced) pages.1 marks, (counted_none (vec_items c.in-ok-pages.pages) (vec_items c.in-ok-announced.announced) pages.1, tt))))))
+pub invariant_of-result : goal.invariant_of-result
+invariant_of-result c =
+    let posts = c.in_ok-posts.ensures in
+    let pages = c.in_ok-pages.ensures in
+    let after = open_after (vec_items c.in_ok-posts.posts) (numbers_of c.in_ok-definitive.definitive) (vec_items c.in_ok-pages.pages) posts.items c.in_ok-definitive.ensures pages.1 in
+    let marks = c.in_ok-announced.ensures.items_if_clones_equal (λ y e. e) in
+    record {
+      place = search rules;
+      eight = search rules;
+      table = search rules;
+      sound = ∣ subst Sound (sym after) new-sound ∣₁;
+      marked = marked-none (vec_items c.in_ok-pages.pages) (vec_items c.in_ok-announced.announced) pages.1 marks;
+      counted = counted_none (vec_items c.in_ok-pages.pages) (vec_items c.in_ok-announced.announced) pages.1;
+    }
 
 pub returns : goal.returns
 returns c =
-    open_after (vec_items c.in-ok-posts.posts) (numbers_of c.in-ok-definitive.definitive) (vec_items c.in-ok-pages.pages) c.in-ok-posts.ensures.items c.in-ok-definitive.ensures c.in-ok-pages.ensures.1
+    open_after (vec_items c.in_ok-posts.posts) (numbers_of c.in_ok-definitive.definitive) (vec_items c.in_ok-pages.pages) c.in_ok-posts.ensures.items c.in_ok-definitive.ensures c.in_ok-pages.ensures.1

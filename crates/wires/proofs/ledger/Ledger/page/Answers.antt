@@ -1,5 +1,5 @@
 use Rattle.std.proofs.Common.{arith}
-use Rattle.wires.specs.Pages.{page-read}
+use Rattle.wires.proofs.Pages.{page-read}
 use Rattle.wires.proofs.ledger.Ledger.page.Goals as goal
 
 pub returns : goal.returns

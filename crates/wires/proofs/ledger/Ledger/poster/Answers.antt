@@ -1,6 +1,6 @@
 use Rattle.std.proofs.Common.{vec_items, sym, arith}
-use Rattle.wires.specs.Ledgers.{posts-len}
-use Rattle.wires.specs.Scans.{poster-read}
+use Rattle.wires.proofs.Ledgers.{posts-len}
+use Rattle.wires.proofs.Scans.{poster-read}
 use Rattle.wires.proofs.ledger.Ledger.poster.Goals as goal
 
 pub index-requires : goal.index-requires

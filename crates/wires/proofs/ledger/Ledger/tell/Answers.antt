@@ -2,32 +2,39 @@ use Rattle.std.proofs.Common.{length, refl, ap, arith}
 use Rattle.wire.specs.Calls.{with_heard}
 use Rattle.wires.specs.Kept.{Kept, also_told}
 use Rattle.wires.specs.Meaning.{meaning_of}
-use Rattle.wires.specs.Ledgers.{chosen-small, tell-place, still-sound, read_is, told-after, marked-after, counted-after}
-use Rattle.wires.specs.Sounds.{heard-sound}
+use Rattle.wires.proofs.Ledgers.{chosen-small, tell-place, still-sound, read_is, told-after, marked-after, counted-after}
+use Rattle.wires.proofs.Sounds.{heard-sound}
 use Rattle.wires.proofs.ledger.Ledger.tell.Goals as goal
 
 pub tell-requires : goal.tell-requires
 tell-requires c =
     let l = c.args.self.now in
-    let p = c.index-mut.result.now in
-    let read = read_is l c.args.room p p c.requires.room c.index-mut.ensures.value in
+    let p = c.index_mut.result.now in
+    let read = read_is l c.args.room p p c.requires.room c.index_mut.ensures.value in
     record {
       small = chosen-small l ((meaning_of l).tentative c.args.room) c.args.batch c.requires.chosen;
       few = omega (arith, tell-place l c.args.room c.args.batch c.requires.chosen, ap (λ (k : Kept). length k.told) read);
     }
 
-pub invariant-of-self : goal.invariant-of-self
-invariant-of-self c =
+pub invariant_of-self : goal.invariant_of-self
+invariant_of-self c =
     let l = c.args.self.now in
     let w = meaning_of l in
     let room = c.args.room in
     let b = c.args.batch in
-    let p = c.index-mut.result.now in
+    let p = c.index_mut.result.now in
     let q = c.tell.new.self in
-    let read = c.index-mut.ensures.value in
+    let read = c.index_mut.ensures.value in
     let after = told-after l room p q c.requires.room read b c.tell.ensures in
     let sound = still-sound l _ (with_heard w room b) after (λ s. heard-sound w s room b c.requires.chosen) in
-    (l.place, (l.eight, (l.table, (sound, (marked-after l room p q c.requires.room read (λ k. also_told k b) c.tell.ensures (λ k. refl), (counted-after l room p q c.requires.room read (λ k. also_told k b) c.tell.ensures (λ k. refl), tt))))))
+    record {
+      place = l.place;
+      eight = l.eight;
+      table = l.table;
+      sound = sound;
+      marked = marked-after l room p q c.requires.room read (λ k. also_told k b) c.tell.ensures (λ k. refl);
+      counted = counted-after l room p q c.requires.room read (λ k. also_told k b) c.tell.ensures (λ k. refl);
+    }
 
 pub returns : goal.returns
-returns c = told-after c.args.self.now c.args.room c.index-mut.result.now c.tell.new.self c.requires.room c.index-mut.ensures.value c.args.batch c.tell.ensures
+returns c = told-after c.args.self.now c.args.room c.index_mut.result.now c.tell.new.self c.requires.room c.index_mut.ensures.value c.args.batch c.tell.ensures

@@ -3,7 +3,7 @@ use Rattle.std.proofs.lemmas.List.{length-take-le}
 use Rattle.stock.specs.Stock.{amounts_in}
 use Rattle.stock.specs.Journal.{journal_holds, written_entries}
 use Rattle.stock.specs.declared.entry.Entry.{Entry}
-use Rattle.stock.specs.Bounds.{answered, amounts_in_base}
+use Rattle.stock.proofs.Bounds.{answered, amounts_in_base}
 use Rattle.stock.proofs.Replays.{replayed-none, replayed_last, read_entry}
 use Rattle.stock.proofs.journal.calls.JournalBook.amount.Goals as goal
 

@@ -1,13 +1,13 @@
 -- Going round the rooms: what is left of the round gives the answer, at each step.
-use Rattle.std.specs.Prelude.{◌≡◌, ℕ, zero, suc, ◌+◌, ◌-◌, ◌%◌, ◌<◌, ◌≤◌, Bool, true, false, List, [], ◌∷◌, ◌++◌, map, is_some, Some, None, Option, nat_eq}
+use Rattle.std.specs.Prelude.{◌≡◌, ℕ, ◌+◌, ◌-◌, ◌%◌, ◌<◌, ◌≤◌, true, false, List, [], ◌∷◌, ◌++◌, map, is_some, Some, None, Option, nat_eq}
 use Rattle.std.proofs.Math.Path.{refl}
-use Rattle.std.proofs.Common.{sym, ap, ◌∙◌, arith}
+use Rattle.std.proofs.Common.{ap, ◌∙◌, arith}
 use Rattle.std.proofs.lemmas.Bool.{both_ways}
 use Rattle.std.specs.List.{flat_map}
 use Rattle.lists.specs.Words.{keep, rising}
 use Rattle.wire.specs.Wire.{Posted}
 use Rattle.wires.specs.Orders.{head, left, left_of, left_round, poster, round}
-use Rattle.wires.specs.Scans.{scan_step}
+use Rattle.wires.proofs.Scans.{scan_step}
 
 pub none_is : (o : Option ℕ) → is_some o ≡ false → o ≡ None
 none_is None e = refl

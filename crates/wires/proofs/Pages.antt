@@ -1,12 +1,12 @@
 -- A row of pages as a function from rooms: one page replaced is one value replaced, and what a call does to a page is what
 -- it does to the wire.
-use Rattle.std.specs.Prelude.{◌≡◌, ℕ, zero, suc, ◌+◌, ◌<◌, Bool, true, false, cond, List, [], ◌∷◌, ◌++◌, map, length, get_or, ◌==◌, slice_index_or, slice_set, refl}
-use Rattle.std.proofs.Common.{sym, ap, ◌∙◌, inl, inr, arith, get_or-set_same, get_or-set_other}
+use Rattle.std.specs.Prelude.{◌≡◌, ℕ, zero, suc, ◌<◌, List, [], ◌∷◌, ◌++◌, map, length, get_or, ◌==◌, slice_index_or, slice_set, refl}
+use Rattle.std.proofs.Common.{sym, ap, ◌∙◌, inl, inr, get_or-set_same, get_or-set_other}
 use Rattle.std.proofs.Math.Path.{fun_ext}
 use Rattle.std.proofs.lemmas.List.{get_or-map, map-set, length-map}
 use Rattle.std.proofs.lemmas.Bool.{cases_Bool, cases_eq, eqb-true, eq-eqb, ne_eqb}
 use Rattle.lists.specs.Words.{updated}
-use Rattle.wire.specs.Wire.{Posted, Wire}
+use Rattle.wire.specs.Wire.{Posted}
 use Rattle.wire.specs.Calls.{with_heard, with_taken, with_announced, with_received}
 use Rattle.wire.specs.declared.announcement.Announcement.{Announcement}
 use Rattle.wires.specs.Kept.{Kept, blank, wire_of, also_told, also_announced, also_taken, also_received}

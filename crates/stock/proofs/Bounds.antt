@@ -1,5 +1,5 @@
 -- Amounts within the limit: a list with none above it gives every base such an amount, and so does the list with more after it.
-use Rattle.std.specs.Prelude.{◌≡◌, ℕ, zero, suc, ◌+◌, ◌<◌, ◌≤◌, false, cond, List, [], ◌∷◌, ◌++◌, length, drop, replicate, Ok, Vec, ◌==◌, nat_lt, slice_index, slice_index_or, refl}
+use Rattle.std.specs.Prelude.{◌≡◌, ℕ, zero, suc, ◌<◌, ◌≤◌, false, cond, List, [], ◌∷◌, ◌++◌, length, drop, replicate, Ok, Vec, ◌==◌, nat_lt, slice_index, slice_index_or, refl}
 use Rattle.std.proofs.Common.{ap, ◌∙◌, inl, inr, arith}
 use Rattle.std.proofs.Math.Path.{fun_ext}
 use Rattle.std.specs.Vec.{with_items}
@@ -49,9 +49,6 @@ answered s base amount h e = rw (le-ltb 31 base h, e)
 
 pub amounts_in_base : (xs : List ℕ) (base : ℕ) → base ≤ 31 → amounts_in xs base ≡ slice_index xs base
 amounts_in_base xs base h = rw (lt-ltb base 32 (omega arith))
-
-pub amounts_in-none : (xs : List ℕ) (x : ℕ) → 31 < x → amounts_in xs x ≡ 0
-amounts_in-none xs x h = rw (le-ltb x 32 h)
 
 pub get_or-zeros : (n x : ℕ) → slice_index_or {A = ℕ} (replicate n 0) x 0 ≡ 0
 get_or-zeros zero x = refl

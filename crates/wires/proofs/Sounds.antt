@@ -1,15 +1,15 @@
 -- A new wire is sound, and every call that is taken keeps a wire sound: each part of `Sound` speaks of one list or count,
 -- and a call changes one of them at one place.
-use Rattle.std.specs.Prelude.{◌≡◌, ℕ, ◌+◌, ◌<◌, ◌≤◌, Bool, true, false, not, ◌&&◌, ◌||◌, List, [], ◌∷◌, ◌++◌, length, nat_lt, refl}
-use Rattle.std.proofs.Common.{sym, ap, subst, ◌∙◌, arith, length-append}
+use Rattle.std.specs.Prelude.{◌≡◌, ℕ, ◌<◌, ◌≤◌, true, List, [], ◌∷◌, ◌++◌, length, nat_lt, refl}
+use Rattle.std.proofs.Common.{◌∙◌, arith}
 use Rattle.std.proofs.lemmas.Bool.{lt-ltb}
 use Rattle.std.proofs.lemmas.List.{length_push}
-use Rattle.lists.specs.Words.{any, all, keep, member, updated, rising, Distinct}
+use Rattle.lists.specs.Words.{all, member, Distinct}
 use Rattle.batches.specs.Batches.{Batch, batch_right}
 use Rattle.wire.specs.Wire.{Posted, Wire, new_wire}
-use Rattle.wire.specs.Calls.{Sound, Chosen, with_post, with_number, with_heard, with_taken, with_announced, with_received, amounts_small, announced_before}
+use Rattle.wire.specs.Calls.{Sound, Chosen, with_post, with_number, with_heard, with_taken, with_announced, with_received, amounts_small}
 use Rattle.wire.specs.declared.announcement.Announcement.{Announcement}
-use Rattle.wires.specs.Words.{member-push, all_push, updated_each, distinct_push, left_and_there}
+use Rattle.wires.proofs.Words.{member-push, all_push, updated_each, distinct_push, left_and_there}
 
 pub new-sound : Sound new_wire
 new-sound = record {

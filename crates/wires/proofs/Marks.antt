@@ -1,6 +1,6 @@
 -- A table of marks says which numbers a list holds: it starts all false at the empty list, and one mark is set for each
 -- number that is put at the end.
-use Rattle.std.specs.Prelude.{◌≡◌, ℕ, zero, suc, ◌+◌, ◌<◌, ◌≤◌, Bool, true, false, ◌&&◌, ◌||◌, ◌≢◌, List, [], ◌∷◌, ◌++◌, length, set, replicate, ◌==◌, nat_eq, slice_index_or, slice_set}
+use Rattle.std.specs.Prelude.{◌≡◌, ℕ, zero, suc, ◌+◌, ◌<◌, ◌≤◌, Bool, true, false, ◌&&◌, ◌||◌, List, [], ◌∷◌, ◌++◌, length, replicate, ◌==◌, nat_eq, slice_index_or, slice_set}
 use Rattle.std.proofs.Math.Path.{refl, ap, fun_ext}
 use Rattle.std.proofs.Common.{sym, ◌∙◌, get_or-set_same, get_or-set_other}
 use Rattle.std.proofs.Math.Logic.{inl, inr}
@@ -9,7 +9,7 @@ use Rattle.std.proofs.lemmas.Bool.{cases_eq, cases_Bool, eqb-true, both_ways}
 use Rattle.lists.specs.Words.{any, member, rising, updated}
 use Rattle.wire.specs.declared.announcement.Announcement.{Announcement}
 use Rattle.wires.specs.Kept.{announced_in, trues}
-use Rattle.wires.specs.Words.{member-push, member-rising, any_push}
+use Rattle.wires.proofs.Words.{member-push, member-rising, any_push}
 
 pub no_marks : (n k : ℕ) → slice_index_or (replicate n false) k false ≡ false
 no_marks zero k = refl

@@ -6,22 +6,21 @@ use denote.Struct.Props.{props}
 use Rattle.std.specs.List.{slice_get}
 use Rattle.std.proofs.lemmas.List.{get_or-map, map_push, length-map, length_push}
 use Rattle.std.proofs.lemmas.Option.{slice_get-get_or}
-use Rattle.batches.specs.Batches.{batch_right}
 use Rattle.batches.specs.Sealed.{batch_of}
 use Rattle.wire.specs.Wire.{Wire, Posted, new_wire}
 use Rattle.wire.specs.declared.announcement.Announcement.{Announcement}
 use Rattle.wire.specs.Calls.{Sound, Chosen, with_post, with_number, with_heard, with_taken, with_announced, with_received, announced_before}
 use Rattle.lists.specs.Words.{updated}
 use Rattle.wires.specs.Kept.{Kept, blank, wire_of, also_told, also_taken, also_announced, also_received, announced_in, trues}
-use Rattle.wires.specs.Parts.{posted_of, kept_of, kept_in, numbers_of, announced_by}
+use Rattle.wires.specs.Parts.{posted_of, kept_of, kept_in, announced_by}
 use Rattle.wires.specs.Meaning.{meaning_of}
 use Rattle.wires.specs.declared.ledger.Ledger.{Ledger}
 use Rattle.wires.specs.declared.post.Post.{Post}
 use Rattle.wires.specs.declared.page.Page.{Page}
-use Rattle.wires.specs.Words.{updated_each}
-use Rattle.wires.specs.Marks.{no_marks, trues-few, trues-set, mark_set, announced-push}
-use Rattle.wires.specs.Pages.{page-read, page-set, part_old, part_new, told-wire, taken-wire, announced-wire, received-wire}
-use Rattle.wires.specs.Sounds.{number_fits, heard-fits, few-numbered}
+use Rattle.wires.proofs.Words.{updated_each}
+use Rattle.wires.proofs.Marks.{no_marks, trues-few, trues-set, mark_set, announced-push}
+use Rattle.wires.proofs.Pages.{page-read, page-set, part_old, part_new, told-wire, taken-wire, announced-wire, received-wire}
+use Rattle.wires.proofs.Sounds.{number_fits, heard-fits, few-numbered}
 
 module _ (l : Ledger) where
   -- as many posts as places used
