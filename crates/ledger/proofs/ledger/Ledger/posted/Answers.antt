@@ -1,9 +1,0 @@
-use Rattle.std.proofs.Common.{sym, ◌∙◌, rules}
-use Rattle.ledger.proofs.Ledgers.{posts-len, posts-few}
-use Rattle.ledger.proofs.ledger.Ledger.posted.Goals as goal
-
-pub overflow-cast-result : goal.overflow-cast-result
-overflow-cast-result c = let few = posts-few c.args.self.now in search rules
-
-pub returns : goal.returns
-returns c = c.len.ensures ∙ sym (posts-len c.args.self.now)
