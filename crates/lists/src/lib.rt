@@ -10,10 +10,7 @@ pub fn item_at<T: Copy>(items: &[T], at: usize) -> Option<T>
     ensures value { result ≡ slice_get items.now at }
     ensures cases { MatchOption result (length items.now ≤ at) (λ _. at < length items.now) }
 {
-    if at >= items.len() {
-        return None;
-    }
-    Some(items[at])
+    items.get(at).copied()
 }
 
 // Takes out the element at a place and closes the gap: the elements after it move down by one, and the last one stays
@@ -23,16 +20,6 @@ pub fn close_gap<T: Copy>(items: &mut [T], at: usize) -> Option<T>
     ensures cases { MatchOption result ((length items.old ≤ at) × (items.new ≡ items.old)) (λ _. (at < length items.old) × (items.new ≡ closed at items.old)) }
 {
     let taken = item_at(items, at)?;
-    move_down(items, at);
+    items.copy_within(at + 1.., at);
     Some(taken)
-}
-
-// Moves the elements after a place down by one.
-fn move_down<T: Copy>(items: &mut [T], at: usize)
-    requires { at < length items.old }
-    ensures after { items.new ≡ closed at items.old }
-{
-    for i in at..items.len() - 1 {
-        items[i] = items[i + 1];
-    }
 }

@@ -5,7 +5,7 @@ ghost use Rattle.refusals.specs.Causes.{number_of};
 #[derive(Clone, Copy, PartialEq, Eq, Debug)]
 pub enum Refusal {
     // a buffer is too short, or a journal's too long
-    BufferLength,
+    BufferLength = 1,
     // a room, a sender, a number of rooms or a kind of wire is out of range, or the sender is the hearer
     OutOfRange,
     // a set is empty or has more than eight bases
@@ -50,11 +50,11 @@ pub enum Refusal {
     OutOfTurn,
 }
 
-impl Refusal {
+impl From<Refusal> for u8 {
+    ghost from_gives = { λ cause number. number ≡ number_of cause };
+
     // The number of the cause.
-    pub fn number(self) -> u8
-        ensures { result ≡ number_of self }
-    {
-        self as u8 + 1
+    fn from(cause: Refusal) -> u8 {
+        cause as u8
     }
 }
