@@ -5,6 +5,10 @@ ghost use Rattle.std.specs.Prelude.{◌≡◌, ◌^◌, ◌<◌, [], ◌∷◌, 
 ghost use Rattle.lists.specs.Words.{member};
 ghost use Rattle.sets.specs.Sets.{bases, size, sized, within, shares};
 
+pub mod rising;
+
+pub use rising::{RisingBases, rising_bases};
+
 // How many bases a set has.
 pub fn count_bases(set: u32) -> u32
     ensures { result ≡ size set }
