@@ -8,7 +8,7 @@ use Rattle.lists.proofs.Members.{all_push, all_get_d}
 use Rattle.lists.proofs.Updates.{updated_each}
 use Rattle.refusals.specs.declared.refusal.Refusal.TheVariants.{OutOfRange, SetUnplanned, WireFull}
 use Rattle.sets.specs.Sets.{bases}
-use Rattle.sets.proofs.Members.{base_low}
+use Rattle.sets.proofs.Bases.{base_below}
 use Rattle.stock.specs.Stock.{Stock, Sound}
 use Rattle.plan.specs.Plan.{Plan, planned, line_right, plan_right}
 use Rattle.batches.specs.declared.outcome.RunResult.{RunResult}
@@ -40,7 +40,7 @@ pub record Steady (h : House) : Type 0 where
 written-sound : (set : ℕ) (values : List ℕ) (left : ℕ) (s : Stock) → small_all values ≡ true → Sound s → Sound (book_written set values left s)
 written-sound set values left s v o = record {
   small = laid-small set values s.amounts v o.small;
-  none_above = λ x l. elim (cases_Bool (member x (bases set))) [ inl t ↦ absurd (let z = base_low set x t in omega (arith, z, l)) | inr f ↦ rw f (o.none_above x l) ];
+  none_above = λ x l. elim (cases_Bool (member x (bases set))) [ inl t ↦ absurd (let z = base_below set x t in omega (arith, z, l)) | inr f ↦ rw f (o.none_above x l) ];
 }
 
 -- a mark taken off or put on

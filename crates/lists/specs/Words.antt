@@ -1,22 +1,20 @@
 -- Words on lists. A batch and a base are numbers, so most lists here are lists of numbers.
 -- A test is a Bool, so that a law about tests is an equation.
-use Rattle.std.specs.Prelude.{◌≡◌, ℕ, zero, suc, Bool, true, false, cond, not, ◌&&◌, ◌||◌, List, [], ◌∷◌, ◌==◌, nat_eq, nat_lt}
+use Rattle.std.specs.Prelude.{◌≡◌, ℕ, zero, suc, Bool, false, cond, not, ◌&&◌, ◌||◌, List, [], ◌∷◌, ◌==◌, nat_eq, nat_lt, filter}
+use Rattle.std.specs.List.{list_any, list_all}
 
 module _ {X : Type 0} where
   -- some element passes the test
   abbrev pub any : (X → Bool) → List X → Bool
-  any p [] = false
-  any p (x ∷ xs) = p x || any p xs
+  any p xs = list_any p xs
 
   -- every element passes the test
   abbrev pub all : (X → Bool) → List X → Bool
-  all p [] = true
-  all p (x ∷ xs) = p x && all p xs
+  all p xs = list_all p xs
 
   -- the elements that pass the test, in their order
   abbrev pub keep : (X → Bool) → List X → List X
-  keep p [] = []
-  keep p (x ∷ xs) = cond (p x) (x ∷ keep p xs) (keep p xs)
+  keep p xs = filter p xs
 
   -- the place, from 0, of the first element that passes the test; the length where none does
   abbrev pub first : (X → Bool) → List X → ℕ

@@ -1,26 +1,11 @@
 -- Which bases a set has: a set within another has none that the other lacks, and two sets share a base exactly where
 -- some base is in both. All by membership in the list of bases.
-use Rattle.std.proofs.Common.{◌≡◌, ℕ, ◌+◌, ◌<◌, true, false, ◌&&◌, ltb, leb, sym, ap, ◌∙◌, inl, inr, arith}
-use Rattle.std.proofs.lemmas.Bool.{cases_Bool, and_parts, and_from, both_ways, ltb-true}
-use Rattle.lists.specs.Words.{member, rising, Distinct}
-use Rattle.lists.proofs.Members.{member-rising, any-member, some_of, all_at, all_from}
-use Rattle.lists.proofs.Keeps.{member-keep}
-use Rattle.lists.proofs.Distincts.{distinct_keep, distinct_rising}
+use Rattle.std.proofs.Common.{◌≡◌, ℕ, true, false, ltb, sym, ◌∙◌, inl, inr}
+use Rattle.std.proofs.lemmas.Bool.{cases_Bool, and_parts, and_from, both_ways}
+use Rattle.lists.specs.Words.{member}
+use Rattle.lists.proofs.Members.{any-member, some_of, all_at, all_from}
 use Rattle.sets.specs.Sets.{has, bases, within, shares}
-
-member-bases : (set x : ℕ) → member x (bases set) ≡ (has set x && ltb x 32)
-unfolding bases
-member-bases set x = member-keep (has set) x (rising 0 32) ∙ ap (λ b. has set x && b) (member-rising x 0 32 ∙ low x)
-  where
-    low : (x : ℕ) → (leb 0 x && ltb x (0 + 32)) ≡ ltb x 32
-    low x = grind arith
-
-pub bases_distinct : (set : ℕ) → Distinct (bases set)
-unfolding bases
-bases_distinct set = distinct_keep (has set) (rising 0 32) (distinct_rising 0 32)
-
-pub base_low : (set x : ℕ) → member x (bases set) ≡ true → x < 32
-base_low set x h = ltb-true x 32 (and_parts (has set x) (ltb x 32) (sym (member-bases set x) ∙ h)).1
+use Rattle.sets.proofs.Bases.{member-bases}
 
 has_base : (set x : ℕ) → member x (bases set) ≡ true → has set x ≡ true
 has_base set x h = (and_parts (has set x) (ltb x 32) (sym (member-bases set x) ∙ h)).0

@@ -1,5 +1,5 @@
 -- What it says of a call that no cause holds, and the other way round.
-use Rattle.std.proofs.Common.{◌≡◌, ℕ, ◌<◌, ◌≤◌, true, false, List, get_or, take, is_ok, Some, None, Ok, Err, Option, Result, refl, arith}
+use Rattle.std.proofs.Common.{◌≡◌, ℕ, ◌<◌, ◌≤◌, Bool, true, false, List, get_or, take, is_ok, Some, None, Ok, Err, Option, Result, refl, arith}
 use Rattle.std.proofs.lemmas.List.{get_or-take}
 use Rattle.std.proofs.lemmas.Bool.Decides.{nat_tests}
 use Rattle.lists.specs.Words.{any}
@@ -7,6 +7,7 @@ use Rattle.refusals.specs.declared.refusal.Refusal.{Refusal}
 use Rattle.sets.specs.Sets.{size}
 use Rattle.stock.specs.Stock.{Stock, Writing, write_cause, over_limit}
 use Rattle.stock.specs.BySet.{write_set_cause}
+use Rattle.stock.specs.Openings.{opening_cause}
 use Rattle.stock.proofs.Bounds.{small-get_or}
 
 -- a call that is taken is not refused
@@ -22,9 +23,17 @@ pub write_ok : {B : Type 0} (holds : B → Stock) (old new : B) (base amount : �
 write_ok holds old new base amount (Ok _) none w = refl
 write_ok holds old new base amount (Err e) none w = absurd (never_both none w.why)
 
+-- what is known of a book that is opened: its buffer's length fits, and no opening amount is above the limit
+pub opening_taken : (fits : Bool) (opening : List ℕ) → opening_cause fits opening ≡ None → (fits ≡ true) × (any over_limit opening ≡ false)
+opening_taken fits opening none = (grind arith, grind arith)
+
 module _ (s : Stock) (set : ℕ) (values : List ℕ) (taken : write_set_cause s set values ≡ None) where
   -- each of its amounts is within the limit
   pub set-small : (k : ℕ) → k < size set → get_or values k 0 ≤ 1000000000
   set-small k h =
       let none : any over_limit (take (size set) values) ≡ false = grind (arith, nat_tests) in
       rw (get_or-take (size set) values k 0 h) at (small-get_or (take (size set) values) k none)
+
+  -- and there are at most eight
+  pub set-few : size set ≤ 8
+  set-few = grind (arith, nat_tests)

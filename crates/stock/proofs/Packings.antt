@@ -23,6 +23,9 @@ pub record Packing (bs : List ℕ) (m : Amounts) (k : ℕ) (out : List ℕ) : Ty
   pub done : (j : ℕ) → j < k → get_or out j 0 ≡ get_or (map m bs) j 0
   pub left : (j : ℕ) → k ≤ j → get_or out j 0 ≡ 0
 
+pub packing_none : (bs : List ℕ) (m : Amounts) → Packing bs m 0 (replicate 8 0)
+packing_none bs m = record { eight = refl; done = λ j h. absurd (omega arith); left = λ j h. get_or-zeros 8 j }
+
 module _ (bs : List ℕ) (m : Amounts) (k : ℕ) (out : List ℕ) (p : Packing bs m k out) where
   -- one base more
   pub packing_more : k < 8 → k < length bs → Packing bs m (k + 1) (set out k (m (get_or bs k 0)))

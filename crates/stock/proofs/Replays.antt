@@ -1,6 +1,6 @@
 -- Entries replayed: an entry more at the end replaces one amount, and the last entry of a base is the one that counts,
 -- since no later one replaces its amount. By induction over the entries.
-use Rattle.std.proofs.Common.{◌≡◌, ℕ, zero, suc, ◌+◌, ◌-◌, ◌<◌, ◌≤◌, ◌⊎◌, List, [], ◌∷◌, ◌++◌, length, get_or, take, set, sym, refl, ap, ◌∙◌, inl, inr, arith}
+use Rattle.std.proofs.Common.{◌≡◌, ℕ, zero, suc, ◌+◌, ◌<◌, ◌≤◌, ◌⊎◌, List, [], ◌∷◌, ◌++◌, length, get_or, take, set, sym, refl, ap, ◌∙◌, inl, inr, arith}
 use Rattle.std.proofs.lemmas.List.{take_more_set, get_or-take, get_or_read}
 use Rattle.std.proofs.lemmas.Bool.{eq-eqb, ne_eqb, cases_eq}
 use Rattle.lists.specs.Words.{updated}
@@ -67,18 +67,6 @@ last_counts entries opening base =
       | inl none ↦ inl (none, replayed-none entries opening base none)
       | inr last ↦ inr (last.0, last.1, replayed_last entries opening base last.0 last.1)
     ]
-
--- the search from the back: the place is one less a turn, down to the last entry of the base
-
-pub none_back : (entries : List Entry) (base place : ℕ) → 0 < place → NoneFrom place entries base → ((entry_at entries (place - 1)).base ≡ base → ⊥) → NoneFrom (place - 1) entries base
-none_back entries base place p f n k h l q =
-    elim (cases_eq k (place - 1)) [
-      | inl e ↦ n (ap (λ i. (entry_at entries i).base) (sym e) ∙ q)
-      | inr o ↦ f k (omega arith) l q
-    ]
-
-pub last_back : (entries : List Entry) (base place : ℕ) → 0 < place → place ≤ length entries → NoneFrom place entries base → (entry_at entries (place - 1)).base ≡ base → LastAt entries base (place - 1)
-last_back entries base place p w f q = record { within = omega arith; here = q; none_after = λ k h l e. f k (omega arith) l e }
 
 -- a written entry, as it is read from the buffer
 pub read_entry : (items : List Entry) (used place : ℕ) (e : Entry) → place < used → used ≤ length items → e ≡ get_or items place e → entry_at (take used items) place ≡ e

@@ -8,7 +8,7 @@ ghost use Rattle.stock.specs.BySet.{write_set_cause, SetWritten, SetWriting, onl
 use crate::book::Book;
 use crate::limits::any_over_limit;
 use refusals::Refusal;
-use sets::{count_bases, is_sized, split_lowest};
+use sets::{count_bases, is_sized, rising_bases};
 
 // Whether a book takes the amounts of a set's bases, and why not.
 pub fn check_set<B: Book>(book: &B, set: u32, amounts: &[u32; 8]) -> Result<(), Refusal>
@@ -43,12 +43,8 @@ fn write_each<B: Book>(book: &mut B, set: u32, amounts: &[u32; 8])
     requires { write_set_cause (B.Book.holds book.old) set amounts.now ≡ None }
     ensures { SetWritten B.Book.holds B.Book.leaves book.old book.new set amounts.now }
 {
-    let mut left = set;
-    let mut k = 0;
-    while let Some((base, rest)) = split_lowest(left) {
-        book.write(base, amounts[k]).unwrap();
-        left = rest;
-        k += 1;
+    for (base, amount) in rising_bases(set).zip(amounts) {
+        book.write(base, *amount).unwrap();
     }
 }
 
@@ -57,10 +53,8 @@ pub fn read_set<B: Book>(book: &B, set: u32) -> [u32; 32]
     ensures { amounts_in result ≡ only set (B.Book.holds book.now).amounts }
 {
     let mut amounts = [0; 32];
-    let mut left = set;
-    while let Some((base, rest)) = split_lowest(left) {
+    for base in rising_bases(set) {
         amounts[base as usize] = book.amount(base).unwrap();
-        left = rest;
     }
     amounts
 }
@@ -71,13 +65,8 @@ pub fn pack(set: u32, amounts: &[u32; 32]) -> [u32; 8]
     ensures whole { size set ≤ 8 → result ≡ packed set (amounts_in amounts.now) }
 {
     let mut packed = [0; 8];
-    let mut left = set;
-    for k in 0..8 {
-        let Some((base, rest)) = split_lowest(left) else {
-            break;
-        };
-        packed[k] = amounts[base as usize];
-        left = rest;
+    for (place, base) in (0..8).zip(rising_bases(set)) {
+        packed[place] = amounts[base as usize];
     }
     packed
 }

@@ -16,10 +16,5 @@ pub const LIMIT: u32 = 1_000_000_000;
 pub fn any_over_limit(amounts: &[u32]) -> bool
     ensures { result ≡ any over_limit amounts.now }
 {
-    for amount in amounts {
-        if *amount > LIMIT {
-            return true;
-        }
-    }
-    false
+    amounts.iter().any(|amount| *amount > LIMIT)
 }

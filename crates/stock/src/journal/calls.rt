@@ -7,8 +7,8 @@ ghost use Rattle.stock.specs.Journal.{journal_items, written_entries, journal_ho
 use super::Journal;
 use crate::book::Book;
 use crate::entry::Entry;
-use crate::limits::{LAST_BASE, LIMIT, any_over_limit};
-use crate::returned::Returned;
+use crate::limits::{LAST_BASE, LIMIT};
+use crate::returned::{Returned, accept};
 use refusals::Refusal;
 
 // The least length of a journal's buffer.
@@ -23,18 +23,8 @@ impl Journal {
     pub fn open(buffer: Vec<Entry>, opening: &[u32; 32]) -> Result<Journal, Returned<Entry>>
         ensures cases { MatchResult result (JournalOpened buffer opening.now) (HandedBack (journal_cause buffer.items opening.now) buffer) }
     {
-        if buffer.len() < SHORTEST || buffer.len() > LONGEST {
-            return Err(Returned {
-                cause: Refusal::BufferLength,
-                buffer,
-            });
-        }
-        if any_over_limit(opening) {
-            return Err(Returned {
-                cause: Refusal::OverLimit,
-                buffer,
-            });
-        }
+        let fits = SHORTEST <= buffer.len() && buffer.len() <= LONGEST;
+        let buffer = accept(buffer, fits, opening)?;
         Ok(Journal {
             opening: *opening,
             buffer,
@@ -65,12 +55,9 @@ impl Journal {
     pub fn last_entry(&self, base: u8) -> Option<usize>
         ensures { MatchOption result (NoneFrom 0 (written_entries self.now) base) (LastAt (written_entries self.now) base) }
     {
-        for place in (0..self.used).rev() {
-            if self.buffer[place].base == base {
-                return Some(place);
-            }
-        }
-        None
+        self.buffer[..self.used]
+            .iter()
+            .rposition(|entry| entry.base == base)
     }
 }
 

@@ -6,8 +6,8 @@ ghost use Rattle.stock.specs.Table.{table_items, table_holds, table_cause, Table
 
 use super::Table;
 use crate::book::Book;
-use crate::limits::{BASES, LAST_BASE, LIMIT, any_over_limit};
-use crate::returned::Returned;
+use crate::limits::{BASES, LAST_BASE, LIMIT};
+use crate::returned::{Returned, accept};
 use refusals::Refusal;
 
 // The spare entries of a table, at any time.
@@ -16,21 +16,11 @@ const SPARE: u32 = 4096;
 impl Table {
     // Opens a table over a buffer of at least 32 amounts: the first 32 become the opening ones, the rest stays.
     // Refused for a shorter buffer, then for an opening amount above the limit; the buffer then comes back as it was.
-    pub fn open(mut buffer: Vec<u32>, opening: &[u32; 32]) -> Result<Table, Returned<u32>>
+    pub fn open(buffer: Vec<u32>, opening: &[u32; 32]) -> Result<Table, Returned<u32>>
         ensures cases { MatchResult result (TableOpened buffer.items opening.now) (HandedBack (table_cause buffer.items opening.now) buffer) }
     {
-        if buffer.len() < BASES {
-            return Err(Returned {
-                cause: Refusal::BufferLength,
-                buffer,
-            });
-        }
-        if any_over_limit(opening) {
-            return Err(Returned {
-                cause: Refusal::OverLimit,
-                buffer,
-            });
-        }
+        let fits = buffer.len() >= BASES;
+        let mut buffer = accept(buffer, fits, opening)?;
         buffer.as_mut_slice()[0..BASES].copy_from_slice(opening);
         Ok(Table { buffer })
     }
