@@ -1,9 +1,10 @@
 -- Lines of a plan: a line taken at the end keeps the plan right, and the masters are those of the lines.
 -- Both by induction over the lines; a set that no earlier line has changes no earlier answer.
-use Rattle.std.proofs.Common.{◌≡◌, ℕ, zero, suc, ◌+◌, ◌<◌, ◌≤◌, Bool, true, false, not, ◌&&◌, ◌||◌, eqb, ltb, leb, List, [], ◌∷◌, ◌++◌, length, get_or, take, drop, set, Some, None, sym, refl, ap, ◌∙◌, inl, inr, arith}
-use Rattle.std.proofs.lemmas.List.{at_drop_more, at_drop_all, take_more_set, length-take-le}
+use Rattle.std.proofs.Common.{◌≡◌, ℕ, zero, suc, ◌<◌, ◌≤◌, Bool, true, false, not, ◌&&◌, ◌||◌, ◌==◌, eqb, ltb, leb, List, [], ◌∷◌, ◌++◌, length, get_or, Option, Some, None, option_map, find, sym, refl, ap, inl, inr, arith, length-append}
 use Rattle.std.proofs.lemmas.Bool.{cases_Bool, and_parts, and_from, eqb-true, eq-eqb, ne_eqb, not-true, leb-false, lt-ltb, ltb-true, both_ways}
+use Rattle.std.proofs.lemmas.Option.{same_Some}
 use Rattle.lists.specs.Words.{all}
+use Rattle.lists.proofs.Members.{all_append}
 use Rattle.refusals.specs.Causes.{first_cause}
 use Rattle.refusals.specs.declared.refusal.Refusal.TheVariants.{OutOfRange, SetSize, SetPlanned, PlanFull}
 use Rattle.sets.specs.Sets.{sized}
@@ -11,24 +12,17 @@ use Rattle.plan.specs.declared.line.PlanLine.{PlanLine}
 use Rattle.plan.specs.Plan.{Plan, master_in, planned, plan_right, line_right, each_once, line_cause}
 use Rattle.plan.specs.Laws.{Follows}
 
--- the search for a set's line: found at a place, passed there, at the end
-module _ (ls : List PlanLine) (set i : ℕ) (so_far : master_in (drop i ls) set ≡ master_in ls set) where
-  pub search_found : (l : PlanLine) → i < length ls → (get_or ls i l).set ≡ set → Some (get_or ls i l).master ≡ master_in ls set
-  search_found l h e = sym (at_drop_more (λ xs. master_in xs set) ls i l h ∙ rw (eq-eqb (get_or ls i l).set set e)) ∙ so_far
-
-  pub search_passed : (l : PlanLine) → i < length ls → ((get_or ls i l).set ≡ set → ⊥) → master_in (drop (i + 1) ls) set ≡ master_in ls set
-  search_passed l h ne = sym (at_drop_more (λ xs. master_in xs set) ls i l h ∙ rw (ne_eqb (get_or ls i l).set set ne)) ∙ so_far
-
-  pub search_over : length ls ≤ i → None ≡ master_in ls set
-  search_over h = sym (at_drop_all (λ xs. master_in xs set) ls i h) ∙ so_far
+-- the first line that has a set gives it its master
+pub master_of_first : (set : ℕ) (ls : List PlanLine) (o : Option PlanLine) → o ≡ find (λ l. l.set == set) ls → option_map (λ l. l.master) o ≡ master_in ls set
+master_of_first set ls o e = rw e (go ls)
+  where
+    go : (ls : List PlanLine) → option_map (λ l. l.master) (find (λ l. l.set == set) ls) ≡ master_in ls set
+    go [] = refl
+    go (l ∷ ls) = elim (cases_Bool (eqb l.set set)) [ inl t ↦ rw t | inr f ↦ rw f (go ls) ]
 
 planned-push : (ls : List PlanLine) (l : PlanLine) (set : ℕ) → planned (ls ++ l ∷ []) set ≡ (planned ls set || eqb l.set set)
 planned-push [] l set = elim (cases_Bool (eqb l.set set)) [ inl t ↦ rw t | inr f ↦ rw f ]
 planned-push (x ∷ ls) l set = elim (cases_Bool (eqb x.set set)) [ inl t ↦ rw t | inr f ↦ rw f (planned-push ls l set) ]
-
-all_push : {X : Type 0} (p : X → Bool) (xs : List X) (x : X) → all p xs ≡ true → p x ≡ true → all p (xs ++ x ∷ []) ≡ true
-all_push p [] x h k = rw k
-all_push p (y ∷ ys) x h k = let a = and_parts (p y) (all p ys) h in and_from (p y) (all p (ys ++ x ∷ [])) a.0 (all_push p ys x a.1 k)
 
 once-push : (ls : List PlanLine) (l : PlanLine) → each_once ls ≡ true → planned ls l.set ≡ false → each_once (ls ++ l ∷ []) ≡ true
 once-push [] l h k = refl
@@ -55,33 +49,21 @@ no_cause p l h =
     four : (outside size there full : Bool) → first_cause ((outside, OutOfRange) ∷ (not size, SetSize) ∷ (there, SetPlanned) ∷ (full, PlanFull) ∷ []) ≡ None → (outside ≡ false) × (size ≡ true) × (there ≡ false) × (full ≡ false)
     four outside size there full h = (grind arith, grind arith, grind arith, grind arith)
 
--- such a line is put behind the lines taken: they are those before with it at the end, and what a plan keeps is kept
-module _ (rooms count : ℕ) (lines : List PlanLine) (l : PlanLine) (whole : length lines ≡ 32) (few : count ≤ 32) where
-  abbrev old : Plan
-  old = record { rooms = rooms; lines = take count lines }
+-- such a line at the end keeps what a plan keeps
+module _ (p : Plan) (l : PlanLine) (none : line_cause p l.set l.master ≡ None) where
+  pub few-put : length (p.lines ++ l ∷ []) ≤ 32
+  few-put = omega (arith, length-append p.lines (l ∷ []), (no_cause p l none).2)
 
-  module _ (none : line_cause old l.set l.master ≡ None) where
-    pub few-put : count + 1 ≤ 32
-    few-put = omega (arith, length-take-le count lines (omega arith), (no_cause old l none).2)
+  pub right-put : plan_right p ≡ true → plan_right (record { rooms = p.rooms; lines = p.lines ++ l ∷ [] }) ≡ true
+  right-put h =
+      let a = and_parts (leb 1 p.rooms && leb p.rooms 8) (all (line_right p.rooms) p.lines) h in
+      let end : all (line_right p.rooms) (l ∷ []) ≡ true = rw (no_cause p l none).0 in
+      and_from (leb 1 p.rooms && leb p.rooms 8) (all (line_right p.rooms) (p.lines ++ l ∷ [])) a.0 (all_append (line_right p.rooms) p.lines (l ∷ []) a.1 end)
 
-    pub lines-put : take (count + 1) (set lines count l) ≡ take count lines ++ l ∷ []
-    lines-put = take_more_set lines count l (omega (arith, few-put))
-
-    pub right-put : plan_right old ≡ true → plan_right (record { rooms = rooms; lines = take (count + 1) (set lines count l) }) ≡ true
-    right-put h =
-        let a = and_parts (leb 1 rooms && leb rooms 8) (all (line_right rooms) (take count lines)) h in
-        rw lines-put (and_from (leb 1 rooms && leb rooms 8) (all (line_right rooms) (take count lines ++ l ∷ [])) a.0 (all_push (line_right rooms) (take count lines) l a.1 (no_cause old l none).0))
-
-    pub once-put : each_once (take count lines) ≡ true → each_once (take (count + 1) (set lines count l)) ≡ true
-    once-put h = rw lines-put (once-push (take count lines) l h (no_cause old l none).1)
+  pub once-put : each_once p.lines ≡ true → each_once (p.lines ++ l ∷ []) ≡ true
+  once-put h = once-push p.lines l h (no_cause p l none).1
 
 -- where no set stands twice, the answers follow the lines
-
-none-some : {X : Type 0} {x : X} → None ≡ Some x → ⊥
-none-some e = let z : ◌≡◌ {A = ℕ} 0 1 = cc in omega arith
-
-taken : {X : Type 0} {x y : X} → Some x ≡ Some y → x ≡ y
-taken e = cc
 
 there : (ls : List PlanLine) → each_once ls ≡ true → (i : ℕ) (l : PlanLine) → i < length ls → master_in ls (get_or ls i l).set ≡ Some (get_or ls i l).master
 there [] h i l k = absurd (omega arith)
@@ -115,11 +97,11 @@ missing [] s none = refl
 missing (x ∷ ls) s none = rw (ne_eqb x.set s (none 0 x (omega arith))) (missing ls s (λ i l h. none (suc i) l (omega arith)))
 
 room : (rooms : ℕ) (ls : List PlanLine) → all (line_right rooms) ls ≡ true → (s m : ℕ) → master_in ls s ≡ Some m → m < rooms
-room rooms [] h s m e = absurd (none-some e)
+room rooms [] h s m e = cc
 room rooms (x ∷ ls) h s m e =
     let a = and_parts (line_right rooms x) (all (line_right rooms) ls) h in
     elim (cases_Bool (eqb x.set s)) [
-      | inl t ↦ let same : x.master ≡ m = taken (rw t at e) in let low : x.master < rooms = ltb-true x.master rooms (and_parts (sized x.set) (ltb x.master rooms) a.0).1 in omega arith
+      | inl t ↦ let same : x.master ≡ m = same_Some x.master m (rw t at e) in let low : x.master < rooms = ltb-true x.master rooms (and_parts (sized x.set) (ltb x.master rooms) a.0).1 in omega arith
       | inr f ↦ room rooms ls a.1 s m (rw f at e)
     ]
 

@@ -5,7 +5,6 @@
 pub mod draft;
 pub mod laws;
 pub mod line;
-mod lookup;
 pub mod sealed;
 mod sealing;
 mod writing;

@@ -3,7 +3,6 @@ ghost use Rattle.std.specs.Prelude.{◌≡◌};
 ghost use Rattle.plan.specs.Plan.{Plan, master_in};
 ghost use Rattle.plan.specs.Plans.{plan_of};
 
-use crate::lookup::find_master;
 use crate::sealed::SealedPlan;
 
 impl SealedPlan {
@@ -18,6 +17,9 @@ impl SealedPlan {
     pub fn master(&self, set: u32) -> Option<u8>
         ensures value { result ≡ master_in (plan_of self.now).lines set }
     {
-        find_master(&self.lines[0..self.count], set)
+        self.lines
+            .iter()
+            .find(|line| line.set == set)
+            .map(|line| line.master)
     }
 }
