@@ -1,6 +1,6 @@
 -- Lines of a plan: a line taken at the end keeps the plan right, and the masters are those of the lines.
 -- Both by induction over the lines; a set that no earlier line has changes no earlier answer.
-use Rattle.std.proofs.Common.{◌≡◌, ℕ, zero, suc, ◌<◌, ◌≤◌, Bool, true, false, not, ◌&&◌, ◌||◌, ◌==◌, eqb, ltb, leb, List, [], ◌∷◌, ◌++◌, length, get_or, Option, Some, None, option_map, find, sym, refl, ap, inl, inr, arith, length-append}
+use Rattle.std.proofs.Common.{◌≡◌, ℕ, zero, suc, ◌<◌, ◌≤◌, Bool, true, false, not, ◌&&◌, ◌||◌, ◌==◌, eqb, ltb, leb, List, [], ◌∷◌, ◌++◌, length, get_or, Some, None, option_map, find, sym, refl, ap, inl, inr, arith, length-append}
 use Rattle.std.proofs.lemmas.Bool.{cases_Bool, and_parts, and_from, eqb-true, eq-eqb, ne_eqb, not-true, leb-false, lt-ltb, ltb-true, both_ways}
 use Rattle.std.proofs.lemmas.Option.{same_Some}
 use Rattle.lists.specs.Words.{all}
@@ -12,13 +12,10 @@ use Rattle.plan.specs.declared.line.PlanLine.{PlanLine}
 use Rattle.plan.specs.Plan.{Plan, master_in, planned, plan_right, line_right, each_once, line_cause}
 use Rattle.plan.specs.Laws.{Follows}
 
--- the first line that has a set gives it its master
-pub master_of_first : (set : ℕ) (ls : List PlanLine) (o : Option PlanLine) → o ≡ find (λ l. l.set == set) ls → option_map (λ l. l.master) o ≡ master_in ls set
-master_of_first set ls o e = rw e (go ls)
-  where
-    go : (ls : List PlanLine) → option_map (λ l. l.master) (find (λ l. l.set == set) ls) ≡ master_in ls set
-    go [] = refl
-    go (l ∷ ls) = elim (cases_Bool (eqb l.set set)) [ inl t ↦ rw t | inr f ↦ rw f (go ls) ]
+-- a set's master is that of the first line that has the set
+pub master_in_first : (ls : List PlanLine) (set : ℕ) → master_in ls set ≡ option_map (λ l. l.master) (find (λ l. l.set == set) ls)
+master_in_first [] set = refl
+master_in_first (l ∷ ls) set = elim (cases_Bool (eqb l.set set)) [ inl t ↦ rw t | inr f ↦ rw f (master_in_first ls set) ]
 
 planned-push : (ls : List PlanLine) (l : PlanLine) (set : ℕ) → planned (ls ++ l ∷ []) set ≡ (planned ls set || eqb l.set set)
 planned-push [] l set = elim (cases_Bool (eqb l.set set)) [ inl t ↦ rw t | inr f ↦ rw f ]
@@ -50,18 +47,27 @@ no_cause p l h =
     four outside size there full h = (grind arith, grind arith, grind arith, grind arith)
 
 -- such a line at the end keeps what a plan keeps
-module _ (p : Plan) (l : PlanLine) (none : line_cause p l.set l.master ≡ None) where
-  pub few-put : length (p.lines ++ l ∷ []) ≤ 32
-  few-put = omega (arith, length-append p.lines (l ∷ []), (no_cause p l none).2)
+module _ (rooms set master : ℕ) (old new : List PlanLine) (put : new ≡ old ++ (record { set = set; master = master }) ∷ []) (none : None ≡ line_cause (record { rooms = rooms; lines = old }) set master) where
+  abbrev plan : Plan
+  plan = record { rooms = rooms; lines = old }
 
-  pub right-put : plan_right p ≡ true → plan_right (record { rooms = p.rooms; lines = p.lines ++ l ∷ [] }) ≡ true
-  right-put h =
-      let a = and_parts (leb 1 p.rooms && leb p.rooms 8) (all (line_right p.rooms) p.lines) h in
-      let end : all (line_right p.rooms) (l ∷ []) ≡ true = rw (no_cause p l none).0 in
-      and_from (leb 1 p.rooms && leb p.rooms 8) (all (line_right p.rooms) (p.lines ++ l ∷ [])) a.0 (all_append (line_right p.rooms) p.lines (l ∷ []) a.1 end)
+  abbrev line : PlanLine
+  line = record { set = set; master = master }
 
-  pub once-put : each_once p.lines ≡ true → each_once (p.lines ++ l ∷ []) ≡ true
-  once-put h = once-push p.lines l h (no_cause p l none).1
+  pub few_put : length new ≤ 32
+  few_put = rw put (omega (arith, length-append old (line ∷ []), (no_cause plan line (sym none)).2))
+
+  pub right_put : plan_right plan ≡ true → plan_right (record { rooms = rooms; lines = new }) ≡ true
+  right_put h =
+      let a = and_parts (leb 1 rooms && leb rooms 8) (all (line_right rooms) old) h in
+      let end : all (line_right rooms) (line ∷ []) ≡ true = rw (no_cause plan line (sym none)).0 in
+      rw put (and_from (leb 1 rooms && leb rooms 8) (all (line_right rooms) (old ++ line ∷ [])) a.0 (all_append (line_right rooms) old (line ∷ []) a.1 end))
+
+  pub once_put : each_once old ≡ true → each_once new ≡ true
+  once_put h = rw put (once-push old line h (no_cause plan line (sym none)).1)
+
+-- what a plan keeps, with a line at the end
+pub ruleset line_put = (few_put, right_put, once_put)
 
 -- where no set stands twice, the answers follow the lines
 

@@ -2,7 +2,7 @@
 ghost use Rattle.std.specs.Prelude.{◌≡◌, [], IfOk, MatchResult};
 ghost use Rattle.std.specs.Result.{result_err};
 ghost use Rattle.plan.specs.Plan.{Plan, begin_cause, line_cause, with_line};
-ghost use Rattle.plan.specs.Plans.{draft_of, plan_of};
+ghost use Rattle.plan.specs.Plans.{draft_of};
 
 use crate::draft::PlanDraft;
 use crate::line::PlanLine;
@@ -26,6 +26,7 @@ impl PlanDraft {
     }
 
     // Takes one more line, which gives a set its master; a refused one changes nothing.
+    #[tactic(auto, using(crate::proofs::Lines::line_put))]
     pub fn add_line(&mut self, set: u32, master: u8) -> Result<(), Refusal>
         ensures refused { result_err result ≡ line_cause (draft_of self.old) set master }
         ensures cases { MatchResult result (λ _. draft_of self.new ≡ with_line (draft_of self.old) set master) (λ _. self.new ≡ self.old) }
@@ -52,13 +53,5 @@ impl PlanDraft {
             return Err(Refusal::PlanFull);
         }
         Ok(())
-    }
-
-    // Seals the plan: it means what it meant, and takes no more lines.
-    pub fn seal(self) -> SealedPlan
-        ensures value { plan_of result ≡ draft_of self }
-    {
-        let PlanDraft { plan } = self;
-        plan
     }
 }
