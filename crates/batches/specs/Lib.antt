@@ -1,4 +1,5 @@
 pub mod Batches
+pub mod Steps
 pub mod Runs
 pub mod Sealed
 pub mod Laws

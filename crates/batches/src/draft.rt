@@ -1,26 +1,20 @@
 // A batch that is being written.
-ghost use Rattle.std.specs.Prelude.{◌≡◌, ◌≤◌, true, [], ◌∷◌, take};
+ghost use Rattle.std.specs.Prelude.{◌≡◌, true};
 ghost use Rattle.lists.specs.Words.{all};
 ghost use Rattle.sets.specs.Sets.{sized};
 ghost use Rattle.batches.specs.Batches.{step_right};
+ghost use Rattle.batches.specs.Steps.{taken};
 
-use crate::step::Step;
+use crate::steps::Steps;
 use refusals::Refusal;
 
-// A batch being written: of its six steps, the first `count` are taken.
+// A batch being written: its set, and the steps taken so far.
 #[derive(Drop)]
 pub struct BatchDraft {
     pub(crate) set: u32,
-    pub(crate) count: usize,
-    pub(crate) first: Step,
-    pub(crate) second: Step,
-    pub(crate) third: Step,
-    pub(crate) fourth: Step,
-    pub(crate) fifth: Step,
-    pub(crate) sixth: Step,
+    pub(crate) steps: Steps,
     ghost size: { sized set ≡ true },
-    ghost few: { count ≤ 6 },
-    ghost right: { all (step_right set) (take count (first ∷ second ∷ third ∷ fourth ∷ fifth ∷ sixth ∷ [])) ≡ true },
+    ghost right: { all (step_right set) (taken steps) ≡ true },
 }
 
 // A batch that could not be sealed, as it was, and why.
@@ -28,4 +22,13 @@ pub struct BatchDraft {
 pub struct Unsealed {
     pub draft: BatchDraft,
     pub refusal: Refusal,
+}
+
+impl From<Unsealed> for Refusal {
+    ghost from_gives = { λ unsealed refusal. refusal ≡ unsealed.refusal };
+
+    // Why the batch could not be sealed.
+    fn from(unsealed: Unsealed) -> Refusal {
+        unsealed.refusal
+    }
 }

@@ -8,6 +8,8 @@ mod running;
 pub mod sealed;
 mod sealing;
 pub mod step;
+mod steps;
+mod taking;
 mod writing;
 
 pub use draft::{BatchDraft, Unsealed};

@@ -1,20 +1,14 @@
 // A batch that takes no more steps.
-ghost use Rattle.std.specs.Prelude.{◌≡◌, ◌≤◌, true, [], ◌∷◌, take};
+ghost use Rattle.std.specs.Prelude.{◌≡◌, true};
 ghost use Rattle.batches.specs.Batches.{Batch, batch_right};
+ghost use Rattle.batches.specs.Steps.{taken};
 
-use crate::step::Step;
+use crate::steps::Steps;
 
-// A sealed batch: of its six steps, the first `count` are taken. It can be posted once.
+// A sealed batch: its set, and its steps. It can be posted once.
 #[derive(Drop)]
 pub struct SealedBatch {
     pub(crate) set: u32,
-    pub(crate) count: usize,
-    pub(crate) first: Step,
-    pub(crate) second: Step,
-    pub(crate) third: Step,
-    pub(crate) fourth: Step,
-    pub(crate) fifth: Step,
-    pub(crate) sixth: Step,
-    ghost few: { count ≤ 6 },
-    ghost right: { batch_right (record { set = set; steps = take count (first ∷ second ∷ third ∷ fourth ∷ fifth ∷ sixth ∷ []) }) ≡ true },
+    pub(crate) steps: Steps,
+    ghost right: { batch_right (record { set = set; steps = taken steps }) ≡ true },
 }

@@ -5,13 +5,12 @@ ghost use Rattle.stock.specs.Stock.{amounts_in};
 ghost use Rattle.batches.specs.declared.outcome.Outcome.TheVariants.{Done};
 ghost use Rattle.batches.specs.Batches.{Batch};
 ghost use Rattle.batches.specs.Runs.{Ran, run};
-ghost use Rattle.batches.specs.Sealed.{batch_of, sealed_six};
+ghost use Rattle.batches.specs.Sealed.{batch_of};
 
 use crate::outcome::Outcome;
 use crate::running::make_steps;
 use crate::sealed::SealedBatch;
 use crate::step::Step;
-use lists::item_at;
 
 impl SealedBatch {
     // The set of bases that the batch is for.
@@ -25,15 +24,14 @@ impl SealedBatch {
     pub fn count(&self) -> usize
         ensures value { result ≡ length (batch_of self.now).steps }
     {
-        self.count
+        self.steps.len()
     }
 
     // The step at a place, from 0; none where there is no such step.
     pub fn step(&self, place: usize) -> Option<Step>
         ensures value { result ≡ slice_get (batch_of self.now).steps place }
     {
-        let steps = self.steps();
-        item_at(&steps[0..self.count], place)
+        self.steps.get(place)
     }
 
     // Runs the batch. Where every step is done the amounts are those after it, else they are as they were; answers the
@@ -42,21 +40,7 @@ impl SealedBatch {
         ensures value { record { outcome = result.0; step = result.1; after = amounts_in amounts.new } ≡ run (batch_of self.now) (amounts_in amounts.old) }
         ensures same { (result.0 ≢ Done) → amounts.new ≡ amounts.old }
     {
-        let steps = self.steps();
-        make_steps(&steps[0..self.count], amounts)
-    }
-
-    // The six fields in their order.
-    fn steps(&self) -> [Step; 6]
-        ensures value { result ≡ sealed_six self.now }
-    {
-        [
-            self.first,
-            self.second,
-            self.third,
-            self.fourth,
-            self.fifth,
-            self.sixth,
-        ]
+        let six = self.steps.six();
+        make_steps(&six[..self.steps.len()], amounts)
     }
 }

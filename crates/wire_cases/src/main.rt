@@ -13,10 +13,7 @@ use wires::{AnyWire, WireKind};
 fn some_batch() -> Result<SealedBatch, Refusal> {
     let mut draft = BatchDraft::write(1)?;
     draft.add_step(Step::Add { base: 0, amount: 1 })?;
-    match draft.seal() {
-        Ok(batch) => Ok(batch),
-        Err(unsealed) => Err(unsealed.refusal),
-    }
+    Ok(draft.seal()?)
 }
 
 // The posts by rooms 1, 0 and 1.
