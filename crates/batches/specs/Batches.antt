@@ -1,5 +1,6 @@
 -- What a batch is, the rules that its steps keep, and how it is written.
-use Rattle.std.specs.Prelude.{ℕ, Bool, not, ◌&&◌, ◌||◌, List, [], ◌∷◌, ◌++◌, length, Option, ◌==◌, nat_le, nat_lt}
+use Rattle.std.specs.Prelude.{◌≡◌, ℕ, Bool, not, ◌&&◌, ◌||◌, List, [], ◌∷◌, ◌++◌, length, Option, Result, IfOk, ◌==◌, nat_le, nat_lt}
+use Rattle.std.specs.Result.{result_err}
 use Rattle.lists.specs.Words.{all, member}
 use Rattle.lists.specs.Gaps.{without_at}
 use Rattle.refusals.specs.Causes.{first_cause}
@@ -7,6 +8,7 @@ use Rattle.refusals.specs.declared.refusal.Refusal.{Refusal}
 use Rattle.refusals.specs.declared.refusal.Refusal.TheVariants.{SetSize, StepRule, StepCount}
 use Rattle.sets.specs.Sets.{bases, sized}
 use Rattle.batches.specs.declared.step.Step.{Step}
+use Rattle.batches.specs.declared.step.StepNumbers.{StepNumbers}
 use Rattle.batches.specs.declared.step.Step.TheVariants.{Add, Draw, Move}
 
 -- a batch: its set of bases, and its steps in order
@@ -34,26 +36,24 @@ step_low (Move from to amount) = nat_lt from 32 && nat_lt to 32
 abbrev pub batch_right : Batch → Bool
 batch_right b = sized b.set && ((nat_le 1 (length b.steps) && nat_le (length b.steps) 6) && all (step_right b.set) b.steps)
 
--- the four numbers that a step is written as: its kind, two bases, of which the second is 0 but for a move, and its amount
-pub record Numbers : Type 0 where
-  pub kind : ℕ
-  pub first : ℕ
-  pub second : ℕ
-  pub amount : ℕ
-
 -- the numbers that a step is written as
-abbrev pub written : Step → Numbers
+abbrev pub written : Step → StepNumbers
 written (Add base amount) = record { kind = 1; first = base; second = 0; amount = amount }
 written (Draw base amount) = record { kind = 2; first = base; second = 0; amount = amount }
 written (Move from to amount) = record { kind = 3; first = from; second = to; amount = amount }
 
 -- numbers that some step is written as: kind 1 or 2 without a second base, or kind 3
-abbrev pub reads : Numbers → Bool
+abbrev pub reads : StepNumbers → Bool
 reads n = ((n.kind == 1 || n.kind == 2) && n.second == 0) || n.kind == 3
 
 -- why numbers are not read: no step is written so
-abbrev pub read_cause : Numbers → Option Refusal
+abbrev pub read_cause : StepNumbers → Option Refusal
 read_cause n = first_cause ((not (reads n), StepRule) ∷ [])
+
+-- what reading numbers gives: the step that is written as they are, or why there is none
+pub record StepRead (n : StepNumbers) (r : Result Step Refusal) : Type 0 where
+  pub refused : result_err r ≡ read_cause n
+  pub made : IfOk r (λ step. written step ≡ n)
 
 -- why no batch is begun: its set does not have one to eight bases
 abbrev pub batch_cause : ℕ → Option Refusal

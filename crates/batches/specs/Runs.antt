@@ -1,7 +1,10 @@
 -- The rule of a run: what a batch does to stock.
-use Rattle.std.specs.Prelude.{ℕ, suc, ◌+◌, ◌-◌, cond, List, [], ◌∷◌, nat_lt}
+use Rattle.std.specs.Prelude.{ℕ, suc, ◌+◌, ◌-◌, cond, List, [], ◌∷◌, Ok, Err, Result, nat_lt}
 use Rattle.lists.specs.Words.{updated}
 use Rattle.stock.specs.Stock.{Amounts}
+use Rattle.batches.specs.declared.outcome.Failed.{Failed}
+use Rattle.batches.specs.declared.outcome.Failure.{Failure}
+use Rattle.batches.specs.declared.outcome.Failure.TheVariants.{Short as too_little, Over as too_much}
 use Rattle.batches.specs.declared.outcome.Outcome.{Outcome}
 use Rattle.batches.specs.declared.outcome.Outcome.TheVariants.{Done, Short, Over}
 use Rattle.batches.specs.declared.step.Step.{Step}
@@ -47,3 +50,13 @@ run_from (t ∷ ts) place start m = go_on (step_outcome t m) place start (run_fr
 -- a run takes the steps in order
 abbrev pub run : Batch → Amounts → Ran
 run b m = run_from b.steps 0 m m
+
+-- the outcome where a step fails
+abbrev pub failed_outcome : Failure → Outcome
+failed_outcome too_little = Short
+failed_outcome too_much = Over
+
+-- the run of the rule that the code's answer and the amounts after it stand for
+abbrev pub ran : Result Unit Failed → Amounts → Ran
+ran (Ok _) m = record { outcome = Done; step = 0; after = m }
+ran (Err f) m = record { outcome = failed_outcome f.failure; step = f.step; after = m }

@@ -15,4 +15,4 @@ mod writing;
 pub use draft::{BatchDraft, Unsealed};
 pub use outcome::{Outcome, RunResult};
 pub use sealed::SealedBatch;
-pub use step::Step;
+pub use step::{Step, StepNumbers};

@@ -36,11 +36,15 @@ impl SealedBatch {
 
     // Runs the batch. Where every step is done the amounts are those after it, else they are as they were; answers the
     // outcome, and the place of the step that failed, counted from 1, or 0.
+    // A rule of the project: a run answers the two as they are announced, and so no `Result`.
     pub fn run(&self, amounts: &mut [u32; 32]) -> (Outcome, u8)
         ensures value { record { outcome = result.0; step = result.1; after = amounts_in amounts.new } ≡ run (batch_of self.now) (amounts_in amounts.old) }
         ensures same { (result.0 ≢ Done) → amounts.new ≡ amounts.old }
     {
         let six = self.steps.six();
-        make_steps(&six[..self.steps.len()], amounts)
+        match make_steps(&six[..self.steps.len()], amounts) {
+            Ok(()) => (Outcome::Done, 0),
+            Err(failed) => (failed.failure.into(), failed.step),
+        }
     }
 }

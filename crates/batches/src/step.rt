@@ -1,10 +1,12 @@
 // The steps of a batch.
-ghost use Rattle.std.specs.Prelude.{◌≡◌, IfOk};
-ghost use Rattle.std.specs.Result.{result_err};
-ghost use Rattle.batches.specs.Batches.{Numbers, written, read_cause, step_right, amount_right};
+ghost use Rattle.std.specs.Prelude.{◌≡◌};
+ghost use Rattle.batches.specs.Batches.{StepRead, step_right, amount_right};
 
 use refusals::Refusal;
 use sets::has_base;
+
+// The greatest amount of a step, in grams.
+const LARGEST_STEP: u32 = 1_000_000;
 
 // One step of a batch, in grams.
 #[derive(Clone, Copy, PartialEq, Eq, Debug)]
@@ -17,12 +19,29 @@ pub enum Step {
     Move { from: u8, to: u8, amount: u32 },
 }
 
-impl Step {
-    // The step that is written as these four numbers.
-    pub fn read(kind: u8, first: u8, second: u8, amount: u32) -> Result<Step, Refusal>
-        ensures refused { result_err result ≡ read_cause (record { kind = kind; first = first; second = second; amount = amount }) }
-        ensures made { IfOk result (λ step. written step ≡ record { kind = kind; first = first; second = second; amount = amount }) }
-    {
+// The four numbers that a step is written as: its kind, two bases, of which the second is 0 but for a move, and its
+// amount.
+#[derive(Clone, Copy, PartialEq, Eq, Debug)]
+pub struct StepNumbers {
+    pub kind: u8,
+    pub first: u8,
+    pub second: u8,
+    pub amount: u32,
+}
+
+impl TryFrom<StepNumbers> for Step {
+    type Error = Refusal;
+
+    ghost try_from_gives = { StepRead };
+
+    // The step that is written as these numbers.
+    fn try_from(numbers: StepNumbers) -> Result<Step, Refusal> {
+        let StepNumbers {
+            kind,
+            first,
+            second,
+            amount,
+        } = numbers;
         match (kind, second) {
             (1, 0) => Ok(Step::Add {
                 base: first,
@@ -40,7 +59,9 @@ impl Step {
             _ => Err(Refusal::StepRule),
         }
     }
+}
 
+impl Step {
     // Whether the step keeps the rule of the steps of a batch for a set.
     pub fn keeps_rule(self, set: u32) -> bool
         ensures value { result ≡ step_right set self }
@@ -60,5 +81,5 @@ impl Step {
 fn amount_keeps_rule(amount: u32) -> bool
     ensures value { result ≡ amount_right amount }
 {
-    1 <= amount && amount <= 1_000_000
+    (1..=LARGEST_STEP).contains(&amount)
 }

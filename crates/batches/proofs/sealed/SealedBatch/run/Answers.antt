@@ -3,5 +3,5 @@ use Rattle.batches.specs.Sealed.{batch_of}
 use Rattle.batches.proofs.Turns.{steps_low}
 use Rattle.batches.proofs.sealed.SealedBatch.run.Goals as goal
 
-pub make_steps-requires : goal.make_steps-requires
-make_steps-requires c = let low = steps_low (batch_of c.args.self.now) c.args.self.now.right in record { few = search rules; low = search rules }
+pub make_steps-requires-clause-low : goal.make_steps-requires-clause-low
+make_steps-requires-clause-low c = let low = steps_low (batch_of c.args.self.now) c.args.self.now.right in search rules
