@@ -1,3 +1,3 @@
 pub mod Drafts
 pub mod Runs
-pub mod Turns
+pub mod RightSteps

@@ -1,7 +1,7 @@
 -- The laws of a run, by induction over the steps: each step changes bases of the set alone, looks at these alone, and
 -- changes the total by what it adds or draws; the first step that is not done ends the run.
-use Rattle.std.proofs.Common.{◌≡◌, ℕ, zero, suc, ◌+◌, ◌-◌, ◌<◌, ◌≤◌, true, false, cond, not, ◌&&◌, eqb, ltb, List, [], ◌∷◌, length, get_or, take, sym, refl, ap, ◌∙◌, inl, inr, add-zero, arith}
-use Rattle.std.proofs.lemmas.Bool.{cases_Bool, and_parts, ne_eqb, eqb-true, eqb-false, not-true}
+use Rattle.std.proofs.Common.{◌≡◌, ℕ, zero, suc, ◌+◌, ◌-◌, ◌<◌, ◌≤◌, true, false, eqb, List, [], ◌∷◌, length, get_or, take, sym, refl, ap, ◌∙◌, add-zero, arith}
+use Rattle.std.proofs.lemmas.Bool.{and_parts}
 use Rattle.lists.specs.Words.{member, all, updated}
 use Rattle.sets.specs.Sets.{bases}
 use Rattle.sets.proofs.Bases.{base_below}
@@ -10,39 +10,25 @@ use Rattle.batches.specs.declared.outcome.Outcome.{Outcome}
 use Rattle.batches.specs.declared.outcome.Outcome.TheVariants.{Done, Short, Over}
 use Rattle.batches.specs.declared.step.Step.{Step}
 use Rattle.batches.specs.declared.step.Step.TheVariants.{Add, Draw, Move}
-use Rattle.batches.specs.Batches.{step_right, amount_right}
+use Rattle.batches.specs.Batches.{step_right}
 use Rattle.batches.specs.Runs.{Ran, step_outcome, step_after, go_on, run_from}
 use Rattle.batches.specs.Laws.{OthersStay, Alike, SameRun, OwnBasesCount, LimitHolds, DoneOrFails, stock_below, total, added, drawn, TotalFollows}
-use Rattle.batches.proofs.Turns.{steps-right}
-
-short-done : Short ≡ Done → ⊥
-short-done e = let z : ◌≡◌ {A = ℕ} 0 1 = cc in omega arith
-
-over_done : Over ≡ Done → ⊥
-over_done e = let z : ◌≡◌ {A = ℕ} 0 1 = cc in omega arith
+use Rattle.batches.proofs.RightSteps.{steps-right}
 
 -- what a right step says of its bases
 module _ (set : ℕ) where
   add_base : (b n : ℕ) → step_right set (Add b n) ≡ true → member b (bases set) ≡ true
-  add_base b n h = (and_parts (member b (bases set)) (amount_right n) h).0
+  add_base b n h = grind arith
 
   move_bases : (b c n : ℕ) → step_right set (Move b c n) ≡ true → (member b (bases set) ≡ true) × (member c (bases set) ≡ true) × (eqb b c ≡ false)
-  move_bases b c n h =
-      let parts = and_parts (member b (bases set) && member c (bases set)) (not (eqb b c) && amount_right n) h in
-      let both = and_parts (member b (bases set)) (member c (bases set)) parts.0 in
-      (both.0, both.1, not-true (eqb b c) (and_parts (not (eqb b c)) (amount_right n) parts.1).0)
+  move_bases b c n h = (grind arith, grind arith, grind arith)
 
 -- no base outside the set changes
 
-updated_away : (set : ℕ) (m : Amounts) (b v x : ℕ) → member b (bases set) ≡ true → member x (bases set) ≡ false → updated m b v x ≡ m x
-updated_away set m b v x hb hx = grind arith
-
 after_away : (set : ℕ) (t : Step) → step_right set t ≡ true → (m : Amounts) (x : ℕ) → member x (bases set) ≡ false → step_after t m x ≡ m x
-after_away set (Add b n) h m x f = updated_away set m b (m b + n) x (add_base set b n h) f
-after_away set (Draw b n) h m x f = updated_away set m b (m b - n) x (add_base set b n h) f
-after_away set (Move b c n) h m x f =
-    let z = move_bases set b c n h in
-    updated_away set (updated m b (m b - n)) c (m c + n) x z.1 f ∙ updated_away set m b (m b - n) x z.0 f
+after_away set (Add b n) h m x f = grind arith
+after_away set (Draw b n) h m x f = grind arith
+after_away set (Move b c n) h m x f = grind arith
 
 go_on_away : (o : Outcome) (place : ℕ) (start : Amounts) (rest : Ran) (x : ℕ) → rest.after x ≡ start x → (go_on o place start rest).after x ≡ start x
 go_on_away Done place start rest x h = h
@@ -53,7 +39,7 @@ from_away : (set : ℕ) (ts : List Step) → all (step_right set) ts ≡ true �
 from_away set [] h place start m x f e = e
 from_away set (t ∷ ts) h place start m x f e =
     let z = and_parts (step_right set t) (all (step_right set) ts) h in
-    go_on_away (step_outcome t m) place start (run_from ts (suc place) start (step_after t m)) x (from_away set ts z.1 (suc place) start (step_after t m) x f (after_away set t z.0 m x f ∙ e))
+    go_on_away (step_outcome t m) place start _ x (from_away set ts z.1 (suc place) start (step_after t m) x f (after_away set t z.0 m x f ∙ e))
 
 pub others_stay : OthersStay
 others_stay b h m x f = from_away b.set b.steps (steps-right b h) 0 m m x f refl
@@ -90,22 +76,10 @@ own_bases-count b h m n e = from_alike b.set b.steps (steps-right b h) 0 m n m n
 abbrev Small : Amounts → Type 0
 Small m = (x : ℕ) → m x ≤ 1000000000
 
-updated-small : (m : Amounts) (b v : ℕ) → Small m → v ≤ 1000000000 → Small (updated m b v)
-updated-small m b v h l x = elim (cases_Bool (eqb x b)) [ inl t ↦ rw t l | inr f ↦ rw f (h x) ]
-
-done-add : (a n : ℕ) → cond (ltb 1000000000 (a + n)) Over Done ≡ Done → a + n ≤ 1000000000
-done-add a n h = grind arith
-
-done_draw : (a n : ℕ) → cond (ltb a n) Short Done ≡ Done → n ≤ a
-done_draw a n h = grind arith
-
-done_move : (a n c : ℕ) → cond (ltb a n) Short (cond (ltb 1000000000 (c + n)) Over Done) ≡ Done → (n ≤ a) × (c + n ≤ 1000000000)
-done_move a n c h = (grind arith, grind arith)
-
 after_small : (t : Step) (m : Amounts) → Small m → step_outcome t m ≡ Done → Small (step_after t m)
-after_small (Add b n) m h e = updated-small m b (m b + n) h (done-add (m b) n e)
-after_small (Draw b n) m h e = updated-small m b (m b - n) h (let z = h b in omega arith)
-after_small (Move b c n) m h e = updated-small (updated m b (m b - n)) c (m c + n) (updated-small m b (m b - n) h (let z = h b in omega arith)) (done_move (m b) n (m c) e).1
+after_small (Add b n) m h e x = let z = h x in grind arith
+after_small (Draw b n) m h e x = let z = h x in let y = h b in grind arith
+after_small (Move b c n) m h e x = let z = h x in let y = h b in grind arith
 
 go_on-small : (o : Outcome) (place : ℕ) (start : Amounts) (rest : Ran) → Small start → (o ≡ Done → Small rest.after) → Small (go_on o place start rest).after
 go_on-small Done place start rest h k = k refl
@@ -123,24 +97,11 @@ limit_holds b m h = from-small b.steps 0 m m h h
 
 below_away : (n : ℕ) (m : Amounts) (b v : ℕ) → n ≤ b → stock_below n (updated m b v) ≡ stock_below n m
 below_away zero m b v h = refl
-below_away (suc n) m b v h = let apart : eqb n b ≡ false = ne_eqb n b (λ e. omega arith) in rw (below_away n m b v (omega arith), apart)
+below_away (suc n) m b v h = let rest = below_away n m b v in grind arith
 
 below-updated : (n : ℕ) (m : Amounts) (b v : ℕ) → b < n → stock_below n (updated m b v) + m b ≡ stock_below n m + v
 below-updated zero m b v h = absurd (omega arith)
-below-updated (suc n) m b v h =
-    elim (cases_Bool (eqb n b)) [
-      | inl t ↦
-          let e : n ≡ b = eqb-true n b t in
-          let same : m n ≡ m b = ap m e in
-          rw (t, below_away n m b v (omega arith)) (omega arith)
-      | inr f ↦
-          let ne = eqb-false n b f in
-          let low : b < n = lower n b h ne in
-          rw f (omega (arith, below-updated n m b v low))
-    ]
-  where
-    lower : (n b : ℕ) → b < suc n → (n ≡ b → ⊥) → b < n
-    lower n b h ne = grind arith
+below-updated (suc n) m b v h = let rest = below-updated n m b v in let away = below_away n m b v in grind arith
 
 total-updated : (m : Amounts) (b v : ℕ) → b < 32 → total (updated m b v) + m b ≡ total m + v
 unfolding total
@@ -151,27 +112,21 @@ total-step : (set : ℕ) (t : Step) (ts : List Step) (m : Amounts) (last : ℕ) 
 total-step set (Add b n) ts m last h e r =
     omega (arith, total-updated m b (m b + n) (base_below set b (add_base set b n h)))
 total-step set (Draw b n) ts m last h e r =
-    let enough = done_draw (m b) n e in
+    let enough : n ≤ m b = grind arith in
     omega (arith, total-updated m b (m b - n) (base_below set b (add_base set b n h)))
 total-step set (Move b c n) ts m last h e r =
     let z = move_bases set b c n h in
-    let enough = (done_move (m b) n (m c) e).0 in
+    let enough : n ≤ m b = grind arith in
     let m1 : Amounts = updated m b (m b - n) in
-    let same : m1 c ≡ m c = rw (turned b c z.2) in
+    let same : m1 c ≡ m c = let apart = z.2 in grind arith in
     let one = total-updated m b (m b - n) (base_below set b z.0) in
     let two = total-updated m1 c (m c + n) (base_below set c z.1) in
-    moves (total m) (total m1) (total (updated m1 c (m c + n))) (m b) (m c) (m1 c) n last (drawn ts) (added ts) enough same one two r
-  where
-    turned : (a b : ℕ) → eqb a b ≡ false → eqb b a ≡ false
-    turned a b h = grind arith
-
-    moves : (t0 t1 t2 from to to1 n last out in_all : ℕ) → n ≤ from → to1 ≡ to → t1 + from ≡ t0 + (from - n) → t2 + to1 ≡ t1 + (to + n) → last + out ≡ t2 + in_all → last + out ≡ t0 + in_all
-    moves t0 t1 t2 from to to1 n last out in_all a b c d e = omega arith
+    omega arith
 
 go_on-done : (o : Outcome) (place : ℕ) (start : Amounts) (rest : Ran) → (go_on o place start rest).outcome ≡ Done → (o ≡ Done) × (go_on o place start rest ≡ rest)
 go_on-done Done place start rest e = (refl, refl)
-go_on-done Short place start rest e = absurd (short-done e)
-go_on-done Over place start rest e = absurd (over_done e)
+go_on-done Short place start rest e = cc
+go_on-done Over place start rest e = cc
 
 from-total : (set : ℕ) (ts : List Step) → all (step_right set) ts ≡ true → (place : ℕ) (start m : Amounts) → (run_from ts place start m).outcome ≡ Done → total (run_from ts place start m).after + drawn ts ≡ total m + added ts
 from-total set [] h place start m e = refl

@@ -1,6 +1,6 @@
 use Rattle.std.proofs.Common.{rules}
 use Rattle.batches.specs.Sealed.{batch_of}
-use Rattle.batches.proofs.Turns.{steps_low}
+use Rattle.batches.proofs.RightSteps.{steps_low}
 use Rattle.batches.proofs.sealed.SealedBatch.run.Goals as goal
 
 pub make_steps-requires-clause-low : goal.make_steps-requires-clause-low
