@@ -1,8 +1,11 @@
 -- The kinds of frames. A frame is written in hexadecimal digits: the two of its kind's number, then its fields, each byte
 -- two digits, highest first, and nothing after.
-use Rattle.std.specs.Prelude.{ℕ, List, [], ◌∷◌, slice_index}
+use Rattle.std.specs.Prelude.{◌≡◌, ◌≢◌, ℕ, List, [], ◌∷◌, Result, MatchResult, slice_index}
 use Rattle.frames.specs.declared.frame.Frame.{Frame}
 use Rattle.frames.specs.declared.frame.Frame.TheVariants.{Begin, PlanLine, Opening, Seal, Amount}
+use Rattle.frames.specs.declared.kind.FrameKind.{FrameKind}
+use Rattle.frames.specs.declared.kind.FrameKind.TheVariants.{Begin as BeginKind, PlanLine as PlanLineKind, Opening as OpeningKind, Seal as SealKind, Amount as AmountKind}
+use Rattle.frames.specs.declared.kind.UnknownKind.{UnknownKind}
 
 -- a kind: its number, the widths of its fields in bytes, and the frame that the fields' values make
 pub record Kind : Type 0 where
@@ -30,10 +33,27 @@ kinds =
     ∷ kind 0x20 (1 ∷ 1 ∷ []) (two Amount)  -- room, base
     ∷ []
 
+-- the number of each kind
+abbrev pub kind_number : FrameKind → ℕ
+kind_number BeginKind = 0x01
+kind_number PlanLineKind = 0x02
+kind_number OpeningKind = 0x03
+kind_number SealKind = 0x04
+kind_number AmountKind = 0x20
+
+-- the kind with a number, or that number where no kind has it
+abbrev pub HasKind : ℕ → Result FrameKind UnknownKind → Type 0
+HasKind number r =
+    MatchResult r (λ k. kind_number k ≡ number) (λ e. (e.0 ≡ number) × ((k : FrameKind) → kind_number k ≢ number))
+
+-- the kind of a frame
+abbrev pub frame_kind : Frame → FrameKind
+frame_kind (Begin rooms wire) = BeginKind
+frame_kind (PlanLine room set) = PlanLineKind
+frame_kind (Opening base amount) = OpeningKind
+frame_kind Seal = SealKind
+frame_kind (Amount room base) = AmountKind
+
 -- the number of a frame's kind
 abbrev pub number_of : Frame → ℕ
-number_of (Begin rooms wire) = 0x01
-number_of (PlanLine room set) = 0x02
-number_of (Opening base amount) = 0x03
-number_of Seal = 0x04
-number_of (Amount room base) = 0x20
+number_of f = kind_number (frame_kind f)

@@ -1,9 +1,11 @@
 // The frames that a sheet's lines hold, and the fault of a line that holds none.
 ghost use Rattle.std.specs.Prelude.{◌≡◌};
-ghost use Rattle.frames.specs.Kinds.{number_of};
+ghost use Rattle.frames.specs.Kinds.{frame_kind};
+
+use crate::kind::FrameKind;
 
 // A frame, with its fields.
-#[derive(Clone, Copy)]
+#[derive(Clone, Copy, PartialEq, Eq, Debug)]
 pub enum Frame {
     // a house of so many rooms, over a wire of this kind
     Begin { rooms: u8, wire: u8 },
@@ -19,22 +21,22 @@ pub enum Frame {
 
 // The fault of a line that is no frame. Its place is the first character, counted from 0, that no frame has after those
 // before it, or the line's length where the line is too short.
-#[derive(Clone, Copy)]
+#[derive(Clone, Copy, PartialEq, Eq, Debug)]
 pub struct TextFault {
     pub place: usize,
 }
 
 impl Frame {
-    // The number of the frame's kind, which its first two digits write.
-    pub fn kind(&self) -> u8
-        ensures { result ≡ number_of self.now }
+    // The frame's kind, whose number its first two digits write.
+    pub fn kind(&self) -> FrameKind
+        ensures { result ≡ frame_kind self.now }
     {
         match self {
-            Frame::Begin { .. } => 0x01,
-            Frame::PlanLine { .. } => 0x02,
-            Frame::Opening { .. } => 0x03,
-            Frame::Seal => 0x04,
-            Frame::Amount { .. } => 0x20,
+            Frame::Begin { .. } => FrameKind::Begin,
+            Frame::PlanLine { .. } => FrameKind::PlanLine,
+            Frame::Opening { .. } => FrameKind::Opening,
+            Frame::Seal => FrameKind::Seal,
+            Frame::Amount { .. } => FrameKind::Amount,
         }
     }
 }

@@ -3,10 +3,12 @@
 
 mod digits;
 pub mod frame;
+pub mod kind;
 pub mod laws;
 pub mod reading;
 
 pub use frame::{Frame, TextFault};
+pub use kind::{FrameKind, UnknownKind};
 pub use reading::read_frame;
 
 #[cfg(test)]

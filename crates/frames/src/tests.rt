@@ -1,5 +1,5 @@
 // Lines that are no frames, with the places of their faults, and lines that are.
-use crate::reading::read_frame;
+use crate::{FrameKind, TextFault, UnknownKind, read_frame};
 use std::test::Fail;
 
 const MALFORMED: [(&[u8], usize); 16] = [
@@ -33,10 +33,7 @@ const FRAMES: [(&[u8], u8); 6] = [
 #[test]
 fn malformed_lines(rt: HostRuntime) -> Result<(), Fail> {
     for (line, place) in MALFORMED {
-        match read_frame(line) {
-            Ok(_) => return Err(Fail::new("a malformed line was read")),
-            Err(fault) => assert_eq!(rt; fault.place, place),
-        }
+        assert_eq!(rt; read_frame(line), Err(TextFault { place }));
     }
     Ok(())
 }
@@ -44,10 +41,21 @@ fn malformed_lines(rt: HostRuntime) -> Result<(), Fail> {
 #[test]
 fn whole_lines(rt: HostRuntime) -> Result<(), Fail> {
     for (line, kind) in FRAMES {
-        match read_frame(line) {
-            Ok(frame) => assert_eq!(rt; frame.kind(), kind),
-            Err(_) => return Err(Fail::new("a frame was not read")),
-        }
+        assert_eq!(rt;
+            read_frame(line).map(|frame| u8::from(frame.kind())),
+            Ok(kind)
+        );
     }
+    Ok(())
+}
+
+#[test]
+fn kinds_of_numbers(rt: HostRuntime) -> Result<(), Fail> {
+    for (_, number) in FRAMES {
+        assert_eq!(rt; FrameKind::try_from(number).map(u8::from), Ok(number));
+    }
+    assert_eq!(rt; FrameKind::try_from(0x05), Err(UnknownKind(0x05)));
+    let message = format!(in rt.alloc(); "{}", UnknownKind(0x21))?;
+    assert_eq!(rt; message.as_str(), "no kind of frame has the number 33");
     Ok(())
 }
