@@ -1,35 +1,43 @@
--- One digit more: what a number's digits from a place on give, once the digit there is read, is what they gave before,
--- and a number of so many digits is below that power of sixteen.
-use Rattle.std.proofs.Common.{◌≡◌, ℕ, suc, ◌+◌, ◌-◌, ◌*◌, ◌^◌, ◌<◌, ◌≤◌, List, Ok, Err, sym, ◌∙◌, pow-suc, arith}
+-- A number is read digit by digit: what is read and what follows give the number, and it is below that power of sixteen.
+use Rattle.std.proofs.Common.{◌≡◌, ℕ, suc, ◌+◌, ◌-◌, ◌*◌, ◌^◌, ◌<◌, ◌≤◌, Ok, ap, ◌∙◌, add_assoc, add-one, pow-suc, arith}
 use native.Mathlib.Nat.{pow-le-pow_right}
+use Rattle.frames.specs.declared.digits.Fields.{Fields}
 use Rattle.frames.specs.Digits.{then, digit_at, more_at, number_at}
 
-pub number-none : (xs : List ℕ) (at count : ℕ) → more_at xs at (at + count - at) 0 ≡ number_at xs at count
+-- so many digits of a number are read, from where the reader stood, and give this
+pub record Read (from now : Fields) (digits count number : ℕ) : Type 0 where
+  pub stands : now ≡ record from { at = from.at + count }
+  pub value : more_at now.line.now now.at (digits - count) number ≡ number_at from.line.now from.at digits
+  pub bound : number < 16 ^ count
+
+pub read_none : (from : Fields) (digits : ℕ) → Read from from digits 0 0
 unfolding number_at
-number-none xs at count =
-    let e : at + count - at ≡ count = omega arith in
-    rw e
+read_none from digits =
+    let none : from.at + 0 ≡ from.at = omega arith in
+    let all : digits - 0 ≡ digits = omega arith in
+    record { stands = rw none; value = rw all; bound = omega arith }
 
-more_then : (xs : List ℕ) (at end n : ℕ) → at < end
-    → more_at xs at (end - at) n ≡ then (digit_at xs at) (λ d. more_at xs (at + 1) (end - (at + 1)) (n * 16 + d))
-more_then xs at end n h =
-    let e : end - at ≡ suc (end - (at + 1)) = omega arith in
-    rw e
+-- what follows is the next digit, and then the others
+value_more : (from now : Fields) (digits count number : ℕ) → count < digits → Read from now digits count number
+    → then (digit_at now.line.now now.at) (λ d. more_at now.line.now (now.at + 1) (digits - (count + 1)) (number * 16 + d))
+    ≡ number_at from.line.now from.at digits
+value_more from now digits count number h r =
+    let e : digits - count ≡ suc (digits - (count + 1)) = omega arith in
+    rw e at r.value
 
-pub more_digit : (xs : List ℕ) (at end n d : ℕ) → at < end → Ok d ≡ digit_at xs at
-    → more_at xs (at + 1) (end - (at + 1)) (n * 16 + d) ≡ more_at xs at (end - at) n
-more_digit xs at end n d h e = sym (more_then xs at end n h ∙ rw (← e))
+pub read_more : (from now next : Fields) (digits count number d : ℕ) → count < digits → Read from now digits count number
+    → Ok d ≡ digit_at now.line.now now.at → d < 16 → next ≡ record now { at = now.at + 1 }
+    → Read from next digits (count + 1) (number * 16 + d)
+read_more from now next digits count number d h r e small after =
+    rw after
+    (record {
+      stands = ap (λ (f : Fields). record f { at = f.at + 1 }) r.stands ∙ ap (λ n. record from { at = n }) (add_assoc from.at count 1);
+      value = rw (← e) at (value_more from now digits count number h r);
+      bound = rw add-one (omega (arith, pow-suc 16 count, r.bound));
+    })
 
-pub more_fault : (xs : List ℕ) (at end n p : ℕ) → at < end → Err (record { place = p }) ≡ digit_at xs at
-    → Err (record { place = p }) ≡ more_at xs at (end - at) n
-more_fault xs at end n p h e = sym (more_then xs at end n h ∙ rw (← e))
-
-pub power_more : (start at n d : ℕ) → start ≤ at → n < 16 ^ (at - start) → d < 16 → n * 16 + d < 16 ^ (at + 1 - start)
-power_more start at n d h below small =
-    let e : at + 1 - start ≡ suc (at - start) = omega arith in
-    rw e (omega (arith, pow-suc 16 (at - start)))
-
-pub power_fits : (k n d : ℕ) → k < 8 → n < 16 ^ k → d < 16 → n * 16 + d < 2 ^ 32
-power_fits k n d h below small =
-    let most : 16 ^ k ≤ 16 ^ 7 = pow-le-pow_right {n = 16} (omega arith) {i = k} {j = 7} (omega arith) in
-    omega arith
+-- one digit more fits 32 bits
+pub number_small : (from now : Fields) (digits count number : ℕ) → count < digits → digits ≤ 8 → Read from now digits count number → number < 2 ^ 28
+number_small from now digits count number h few r =
+    let most : 16 ^ count ≤ 16 ^ 7 = pow-le-pow_right {n = 16} (omega arith) {i = count} {j = 7} (omega arith) in
+    omega (arith, r.bound)

@@ -36,3 +36,8 @@ number_at xs at count = more_at xs at count 0
 -- the line ends at a place, at the latest
 abbrev pub end_at : List ℕ → ℕ → Result (Unit {0}) TextFault
 end_at xs at = cond (nat_le (length xs) at) (Ok tt) (fault at)
+
+-- where a reading stands: at a fault's place, or behind what was read
+abbrev pub stands_at : {A : Type 0} → ℕ → Result A TextFault → ℕ
+stands_at behind (Ok x) = behind
+stands_at behind (Err e) = e.place

@@ -1,70 +1,81 @@
-// Numbers written in a line by hexadecimal digits of either case, highest first.
+// Reading a line from left to right, by hexadecimal digits of either case.
 ghost use Rattle.std.specs.Prelude.{◌≡◌, ◌+◌, ◌^◌, ◌<◌, ◌≤◌, IfOk};
-ghost use Rattle.frames.specs.Digits.{digit_value, digit_at, number_at, end_at};
+ghost use Rattle.frames.specs.Digits.{digit_at, number_at, end_at, stands_at};
 
 use crate::frame::TextFault;
 
-// The value of a digit; none for any other character.
-fn value(character: u8) -> Option<u8>
-    ensures { result ≡ digit_value character }
-{
-    match character {
-        b'0'..=b'9' => Some(character - b'0'),
-        b'A'..=b'F' => Some(character - b'A' + 10),
-        b'a'..=b'f' => Some(character - b'a' + 10),
-        _ => None,
+// A line that is being read, and the place of the next character. After a fault that is the fault's place.
+#[derive(Drop)]
+pub struct Fields<'a> {
+    line: &'a [u8],
+    at: usize,
+}
+
+impl<'a> Fields<'a> {
+    // The start of a line.
+    pub fn new(line: &'a [u8]) -> Fields<'a>
+        ensures line { result.line.now ≡ line.now }
+        ensures start { result.at ≡ 0 }
+    {
+        Fields { line, at: 0 }
     }
-}
 
-// The digit at a place.
-pub fn digit(line: &[u8], at: usize) -> Result<u8, TextFault>
-    ensures value { result ≡ digit_at line.now at }
-    ensures small { IfOk result (λ d. d < 16) }
-{
-    if at >= line.len() {
-        return Err(TextFault { place: at });
+    // The value of the next digit.
+    pub fn digit(&mut self) -> Result<u32, TextFault>
+        ensures value { result ≡ digit_at self.old.line.now self.old.at }
+        ensures small { IfOk result (λ d. d < 16) }
+        ensures after { self.new ≡ record self.old { at = stands_at (self.old.at + 1) result } }
+    {
+        let digit = self
+            .line
+            .get(self.at)
+            .and_then(|character| char::from(*character).to_digit(16))
+            .ok_or(TextFault { place: self.at })?;
+        self.at += 1;
+        Ok(digit)
     }
-    value(line[at]).ok_or(TextFault { place: at })
-}
 
-// The number that so many digits from a place on write.
-fn number(line: &[u8], at: usize, digits: usize) -> Result<u32, TextFault>
-    requires few { digits ≤ 8 }
-    requires within { at + digits < 2 ^ 64 }
-    ensures value { result ≡ number_at line.now at digits }
-    ensures bound { IfOk result (λ n. n < 16 ^ digits) }
-{
-    let mut number = 0;
-    for place in at..at + digits {
-        number = number * 16 + u32::from(digit(line, place)?);
+    // The number that the next digits write, so many of them, highest first.
+    fn number(&mut self, digits: u32) -> Result<u32, TextFault>
+        requires { digits ≤ 8 }
+        ensures value { result ≡ number_at self.old.line.now self.old.at digits }
+        ensures bound { IfOk result (λ n. n < 16 ^ digits) }
+        ensures after { self.new ≡ record self.old { at = stands_at (self.old.at + digits) result } }
+    {
+        let mut number = 0;
+        for _ in 0..digits {
+            number = number * 16 + self.digit()?;
+        }
+        Ok(number)
     }
-    Ok(number)
-}
 
-// The number of one byte, in two digits.
-pub fn byte(line: &[u8], at: usize) -> Result<u8, TextFault>
-    requires { at + 2 < 2 ^ 64 }
-    ensures { result ≡ number_at line.now at 2 }
-{
-    let number = number(line, at, 2)?;
-    Ok(number as u8)
-}
+    // The number of one byte, in two digits.
+    pub fn byte(&mut self) -> Result<u8, TextFault>
+        ensures value { result ≡ number_at self.old.line.now self.old.at 2 }
+        ensures after { self.new ≡ record self.old { at = stands_at (self.old.at + 2) result } }
+    {
+        let number = self.number(2)?;
+        Ok(number as u8)
+    }
 
-// The number of four bytes, in eight digits.
-pub fn word(line: &[u8], at: usize) -> Result<u32, TextFault>
-    requires { at + 8 < 2 ^ 64 }
-    ensures { result ≡ number_at line.now at 8 }
-{
-    number(line, at, 8)
-}
+    // The number of four bytes, in eight digits. Inlined, the place of the next character is in a register: each digit of a
+    // call would write it to memory.
+    #[inline(always)]
+    pub fn word(&mut self) -> Result<u32, TextFault>
+        ensures value { result ≡ number_at self.old.line.now self.old.at 8 }
+        ensures after { self.new ≡ record self.old { at = stands_at (self.old.at + 8) result } }
+    {
+        self.number(8)
+    }
 
-// The line's end at a place, at the latest.
-pub fn end(line: &[u8], at: usize) -> Result<(), TextFault>
-    ensures { result ≡ end_at line.now at }
-{
-    if line.len() <= at {
-        Ok(())
-    } else {
-        Err(TextFault { place: at })
+    // The line's end here, at the latest.
+    pub fn end(&self) -> Result<(), TextFault>
+        ensures { result ≡ end_at self.now.line.now self.now.at }
+    {
+        if self.line.len() <= self.at {
+            Ok(())
+        } else {
+            Err(TextFault { place: self.at })
+        }
     }
 }

@@ -3,12 +3,12 @@ use Rattle.frames.specs.Reading.{reading}
 use Rattle.frames.proofs.Faults.{reading_cases}
 use Rattle.frames.proofs.reading.read_frame.Goals as goal
 
-pub returns-in_err-kind : goal.returns-in_err-kind
-returns-in_err-kind c =
+pub returns-in_err-kind-clause-cases : goal.returns-in_err-kind-clause-cases
+returns-in_err-kind-clause-cases c =
     let value : c.from_residual.result ≡ reading c.args.line.now = search rules in
-    record { value = value; cases = reading_cases c.args.line.now c.from_residual.result value }
+    reading_cases c.args.line.now c.from_residual.result value
 
-pub returns : goal.returns
-returns c =
+pub returns-clause-cases : goal.returns-clause-cases
+returns-clause-cases c =
     let value : c.read_fields.result ≡ reading c.args.line.now = search rules in
-    record { value = value; cases = reading_cases c.args.line.now c.read_fields.result value }
+    reading_cases c.args.line.now c.read_fields.result value
