@@ -60,5 +60,5 @@ pub fn write_refused(
     if buffer.len() < 16 {
         return Err(Refusal::BufferLength);
     }
-    Ok(write_line(&[kind, cause.number(), layer.number()], buffer))
+    Ok(write_line(&[kind, cause.number(), layer.into()], buffer))
 }
