@@ -22,30 +22,28 @@ put front old at c l h =
     ∙ sym (append_assoc front (c ∷ []) (drop (at + 1) old))
 
 -- what the buffer holds once i bytes are written
-abbrev pub Written : List ℕ → List ℕ → ℕ → ℕ → List ℕ → Type 0
-Written bytes old i at buffer = (at ≡ 2 * i) × (buffer ≡ spelled (take i bytes) ++ drop at old)
+abbrev pub written : List ℕ → List ℕ → ℕ → List ℕ
+written bytes old i = spelled (take i bytes) ++ drop (2 * i) old
 
 front_length : (bytes : List ℕ) (i : ℕ) → i ≤ length bytes → length (spelled (take i bytes)) ≡ 2 * i
 front_length bytes i h = omega (arith, length-spelled (take i bytes), length-take-le i bytes h)
 
-pub one_byte : (bytes old buffer : List ℕ) (i at b high low : ℕ) → i < length bytes → 2 * length bytes + 1 ≤ length old → get_or bytes i 0 ≡ b → high ≡ digit (b / 16) → low ≡ digit (b % 16) →
-    Written bytes old i at buffer → Written bytes old (i + 1) (at + 2) (set (set buffer at high) (at + 1) low)
-one_byte bytes old buffer i at b high low h k e eh el w =
+pub one_byte : (bytes old : List ℕ) (i : ℕ) → i < length bytes → 2 * length bytes + 1 ≤ length old
+    → set (set (written bytes old i) (2 * i) (digit (get_or bytes i 0 / 16))) (2 * i + 1) (digit (get_or bytes i 0 % 16)) ≡ written bytes old (i + 1)
+one_byte bytes old i h k =
     let front : List ℕ = spelled (take i bytes) in
-    let l : length front ≡ at = omega (arith, front_length bytes i (omega arith), w.0) in
-    let m : length (front ++ high ∷ []) ≡ at + 1 = omega (arith, length-append front (high ∷ [])) in
-    let first : set buffer at high ≡ (front ++ high ∷ []) ++ drop (at + 1) old = ap (λ s. set s at high) w.1 ∙ put front old at high l (omega (arith, w.0)) in
-    let second : set (set buffer at high) (at + 1) low ≡ ((front ++ high ∷ []) ++ low ∷ []) ++ drop (at + 1 + 1) old =
-    ap (λ s. set s (at + 1) low) first ∙ put (front ++ high ∷ []) old (at + 1) low m (omega (arith, w.0)) in
-    let more : spelled (take (i + 1) bytes) ≡ (front ++ high ∷ []) ++ low ∷ [] =
-    ap spelled (take_more bytes i 0 h) ∙ ap (λ c. spelled (take i bytes ++ c ∷ [])) e ∙ spelled-push (take i bytes) b
-    ∙ sym (ap (λ n. (front ++ n ∷ []) ++ low ∷ []) eh ∙ ap (λ n. (front ++ digit (b / 16) ∷ []) ++ n ∷ []) el) in
-    let two : at + 1 + 1 ≡ at + 2 = omega arith in
-    (omega (arith, w.0), second ∙ ap (λ s. s ++ drop (at + 1 + 1) old) (sym more) ∙ ap (λ n. spelled (take (i + 1) bytes) ++ drop n old) two)
+    let high : ℕ = digit (get_or bytes i 0 / 16) in
+    let low : ℕ = digit (get_or bytes i 0 % 16) in
+    let more : (front ++ high ∷ []) ++ low ∷ [] ≡ spelled (take (i + 1) bytes) =
+    sym (ap spelled (take_more bytes i 0 h) ∙ spelled-push (take i bytes) (get_or bytes i 0)) in
+    let two : 2 * i + 1 + 1 ≡ 2 * (i + 1) = omega arith in
+    ap (λ s. set s (2 * i + 1) low) (put front old (2 * i) high (front_length bytes i (omega arith)) (omega arith))
+    ∙ put (front ++ high ∷ []) old (2 * i + 1) low (omega (arith, length-append front (high ∷ []), front_length bytes i (omega arith))) (omega arith)
+    ∙ ap (λ s. s ++ drop (2 * i + 1 + 1) old) more
+    ∙ ap (λ n. spelled (take (i + 1) bytes) ++ drop n old) two
 
-pub line_feed : (bytes old buffer : List ℕ) (at : ℕ) → 2 * length bytes + 1 ≤ length old → Written bytes old (length bytes) at buffer → set buffer at 10 ≡ line_of bytes ++ drop (at + 1) old
-line_feed bytes old buffer at k w =
-    let front : List ℕ = spelled (take (length bytes) bytes) in
-    let l : length front ≡ at = omega (arith, front_length bytes (length bytes) (omega arith), w.0) in
-    let all : front ≡ spelled bytes = ap spelled (take_all (length bytes) bytes (omega arith)) in
-    ap (λ s. set s at 10) w.1 ∙ put front old at 10 l (omega (arith, w.0)) ∙ ap (λ f. (f ++ 10 ∷ []) ++ drop (at + 1) old) all
+pub line_feed : (bytes old : List ℕ) → 2 * length bytes + 1 ≤ length old
+    → set (written bytes old (length bytes)) (2 * length bytes) 10 ≡ line_of bytes ++ drop (2 * length bytes + 1) old
+line_feed bytes old k =
+    let all : take (length bytes) bytes ≡ bytes = take_all (length bytes) bytes (omega arith) in
+    rw all (put (spelled bytes) old (2 * length bytes) 10 (length-spelled bytes) (omega arith))

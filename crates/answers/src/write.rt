@@ -1,12 +1,12 @@
-ghost use Rattle.std.specs.Prelude.{◌≡◌, ◌+◌, ◌*◌, ◌<◌, ◌≤◌, ◌++◌, length, drop};
-ghost use Rattle.answers.specs.Answers.{digit, line_of, taken_bytes, refused_bytes, Writes};
+ghost use Rattle.std.specs.Prelude.{◌≡◌, ◌<◌, ◌≤◌, length};
+ghost use Rattle.answers.specs.Answers.{digit, taken_bytes, refused_bytes, Writes};
 ghost use Rattle.refusals.specs.Causes.{number_of};
 
 use crate::layer::Layer;
 use crate::reply::Reply;
 use refusals::Refusal;
 
-// The capital digit of a number below 16.
+// The capital digit of a number below 16; those of the library are small.
 fn capital(n: u8) -> u8
     requires { n < 16 }
     ensures { result ≡ digit n }
@@ -15,40 +15,40 @@ fn capital(n: u8) -> u8
 }
 
 // Writes a line of bytes to the front of a buffer, whose rest stays, and answers the length of the line.
-fn write_line(bytes: &[u8], buffer: &mut [u8]) -> usize
-    requires { 2 * length bytes.now + 1 ≤ length buffer.old }
-    ensures value { result ≡ 2 * length bytes.now + 1 }
-    ensures after { buffer.new ≡ line_of bytes.now ++ drop result buffer.old }
-{
-    let mut at = 0;
-    for byte in bytes {
-        buffer[at] = capital(*byte / 16);
-        buffer[at + 1] = capital(*byte % 16);
-        at += 2;
-    }
-    buffer[at] = b'\n';
-    at + 1
-}
-
-// Writes the answer to a taken frame to the front of a buffer, whose rest stays, and answers the length of the line.
 // A buffer below 16 bytes is refused, and nothing is written.
-pub fn write_taken(kind: u8, reply: Reply, buffer: &mut [u8]) -> Result<usize, Refusal>
-    ensures { Writes (taken_bytes kind reply) buffer.old buffer.new result }
+fn write_line(bytes: &[u8], buffer: &mut [u8]) -> Result<usize, Refusal>
+    requires { length bytes.now ≤ 7 }
+    ensures { Writes bytes.now buffer.old buffer.new result }
 {
     if buffer.len() < 16 {
         return Err(Refusal::BufferLength);
     }
+    // by the index, since a proof knows nothing of what is written through chunks of a slice
+    for (i, byte) in bytes.iter().enumerate() {
+        buffer[2 * i] = capital(*byte / 16);
+        buffer[2 * i + 1] = capital(*byte % 16);
+    }
+    let end = 2 * bytes.len();
+    buffer[end] = b'\n';
+    Ok(end + 1)
+}
+
+// Writes the answer to a taken frame to the front of a buffer, whose rest stays, and answers the length of the line.
+// A buffer below 16 bytes is refused, and nothing is written. The kind is any byte: a kind of frame would ask more of callers.
+pub fn write_taken(kind: u8, reply: Reply, buffer: &mut [u8]) -> Result<usize, Refusal>
+    ensures { Writes (taken_bytes kind reply) buffer.old buffer.new result }
+{
     match reply {
-        Reply::Done => Ok(write_line(&[kind, 0], buffer)),
+        Reply::Done => write_line(&[kind, 0], buffer),
         Reply::Amount(amount) => {
             let [a, b, c, d] = amount.to_be_bytes();
-            Ok(write_line(&[kind, 0, a, b, c, d], buffer))
+            write_line(&[kind, 0, a, b, c, d], buffer)
         }
     }
 }
 
 // Writes the answer to a refused line to the front of a buffer, whose rest stays, and answers the length of the line.
-// A buffer below 16 bytes is refused, and nothing is written.
+// A buffer below 16 bytes is refused, and nothing is written. The kind is any byte, as a line that is no frame has none.
 pub fn write_refused(
     kind: u8,
     cause: Refusal,
@@ -57,8 +57,5 @@ pub fn write_refused(
 ) -> Result<usize, Refusal>
     ensures { Writes (refused_bytes kind (number_of cause) layer) buffer.old buffer.new result }
 {
-    if buffer.len() < 16 {
-        return Err(Refusal::BufferLength);
-    }
-    Ok(write_line(&[kind, cause.number(), layer.into()], buffer))
+    write_line(&[kind, cause.number(), layer.into()], buffer)
 }

@@ -1,5 +1,6 @@
-use Rattle.answers.proofs.Spelling.{Written}
+use Rattle.std.proofs.Common.{◌≡◌}
+use Rattle.answers.proofs.Spelling.{written}
 use Rattle.answers.proofs.write.write_line.Given as goal
 
-abbrev pub invariant-loop-byte : goal.invariant-loop-byte
-invariant-loop-byte l = Written l.bytes l.initial.buffer l.byte-index l.at l.buffer
+abbrev pub invariant-loop-i : goal.invariant-loop-i
+invariant-loop-i l = l.buffer ≡ written l.bytes l.initial.buffer l.i
