@@ -24,13 +24,13 @@ module _ {A B : Type 0} where
   pub then-fault : (r : Result A TextFault) (f : A → Result B TextFault) (p : ℕ) → then r f ≡ fault p
       → (r ≡ fault p) ⊎ ((a : A) × (r ≡ Ok a) × (f a ≡ fault p))
   then-fault (Ok a) f p e = inr (a, refl, e)
-  then-fault (Err x) f p e = let same : x ≡ record { place = p } = cc in inl (ap Err same)
+  then-fault (Err x) f p e = inl cc
 
   -- what two parts give, the second gives from what the first gave
   pub then_ok : (r : Result A TextFault) (f : A → Result B TextFault) (b : B) → then r f ≡ Ok b
       → (a : A) × (r ≡ Ok a) × (f a ≡ Ok b)
   then_ok (Ok a) f b e = (a, refl, e)
-  then_ok (Err x) f b e = let z : ◌≡◌ {A = ℕ} 0 1 = cc in absurd (omega arith)
+  then_ok (Err x) f b e = cc
 
 module _ {A : Type 0} where
   -- a fault has one place
@@ -39,7 +39,7 @@ module _ {A : Type 0} where
 
   -- no value is a fault
   pub no_fault : {X : Type 0} (a : A) (p : ℕ) → Ok a ≡ fault p → X
-  no_fault a p e = let z : ◌≡◌ {A = ℕ} 0 1 = cc in absurd (omega arith)
+  no_fault a p e = cc
 
 -- the place of a digit that is not there is its own
 pub digit-fault : (xs : List ℕ) (at p : ℕ) → digit_at xs at ≡ fault p → p ≡ at
@@ -54,14 +54,14 @@ digit_ok xs at d e = go (digit_value (get_or xs at 0)) e
   where
     go : (o : Option ℕ) → ok_or {E = TextFault} o (record { place = at }) ≡ Ok d → is_some o ≡ true
     go (Some d) e = refl
-    go None e = let z : ◌≡◌ {A = ℕ} 0 1 = cc in absurd (omega arith)
+    go None e = cc
 
 pub digit-whole : (xs : List ℕ) (at : ℕ) → Digit xs at → (d : ℕ) × (digit_at xs at ≡ Ok d)
 digit-whole xs at h = go (digit_value (get_or xs at 0)) h
   where
     go : (o : Option ℕ) → is_some o ≡ true → (d : ℕ) × (ok_or {E = TextFault} o (record { place = at }) ≡ Ok d)
     go (Some d) h = (d, refl)
-    go None h = let z : ◌≡◌ {A = ℕ} 0 1 = cc in absurd (omega arith)
+    go None h = cc
 
 pub digit-same : (xs zs : List ℕ) (n at : ℕ) → Same n xs zs → at < n → digit_at zs at ≡ digit_at xs at
 digit-same xs zs n at same h = rw (same at h)
