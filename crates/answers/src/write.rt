@@ -57,5 +57,5 @@ pub fn write_refused(
 ) -> Result<usize, Refusal>
     ensures { Writes (refused_bytes kind (number_of cause) layer) buffer.old buffer.new result }
 {
-    write_line(&[kind, cause.number(), layer.into()], buffer)
+    write_line(&[kind, cause.into(), layer.into()], buffer)
 }
