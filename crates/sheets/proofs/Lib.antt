@@ -1,3 +1,4 @@
-mod Books
+mod Amounts
+mod Opened
 mod Refused
 mod KindNumbers

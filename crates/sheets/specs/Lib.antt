@@ -1,5 +1,5 @@
-pub mod Ready
 pub mod Sheet
 pub mod Steps
 pub mod Lines
 pub mod Views
+pub mod Books

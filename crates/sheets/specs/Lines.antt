@@ -7,7 +7,7 @@ use Rattle.frames.specs.Kinds.{number_of as kind_of}
 use Rattle.frames.specs.Reading.{reading}
 use Rattle.frames.specs.declared.frame.Frame.{Frame}
 use Rattle.frames.specs.declared.frame.TextFault.{TextFault}
-use Rattle.answers.specs.Answers.{taken_bytes, refused_bytes, Fronted}
+use Rattle.answers.specs.Answers.{line_of, taken_bytes, refused_bytes, Fronted}
 use Rattle.answers.specs.declared.reply.Reply.{Reply}
 use Rattle.answers.specs.declared.layer.Layer.TheVariants.{Text as TextLayer, Turn as TurnLayer, House as HouseLayer}
 use Rattle.sheets.specs.declared.fault.Fault.{Fault}
@@ -68,6 +68,16 @@ abbrev pub fault_bytes : Fault → List ℕ
 fault_bytes (Text e) = refused_bytes 255 (number_of NotAFrame) TextLayer
 fault_bytes (Turn kind) = refused_bytes kind (number_of OutOfTurn) TurnLayer
 fault_bytes (House kind cause) = refused_bytes kind (number_of cause) HouseLayer
+
+-- the bytes of a line's answer
+abbrev pub answer_bytes : Result Answer Fault → List ℕ
+answer_bytes (Ok answer) = taken_bytes answer.0 answer.1
+answer_bytes (Err fault) = fault_bytes fault
+
+-- a line that is answered: it is counted, its frame has its effect, and the answer line is given
+pub record Answered (s t : Sheet) (line text : List ℕ) : Type 0 where
+  pub sheet : t ≡ after_text (counted s) (reading line)
+  pub text_is : text ≡ line_of (answer_bytes (by_text (counted s) (reading line)))
 
 -- a taken line: its answer stands at the front of the buffer
 pub record Taken (s t : Sheet) (line old new : List ℕ) (written : ℕ) : Type 0 where

@@ -74,14 +74,19 @@ amount_asked books room base = answer (amount_cause books room base) ((slice_ind
 abbrev pub no_kind : ℕ → Bool
 no_kind number = not (nat_le 1 number && nat_le number 3)
 
-abbrev pub kind_cause : ℕ → Option Refusal
-kind_cause number = first_cause ((no_kind number, OutOfRange) ∷ [])
+-- why a plan is not begun: it is not for one to four rooms, or no wire has the kind
+abbrev pub begin_cause : ℕ → ℕ → Option Refusal
+begin_cause rooms wire = first_cause ((not (nat_le 1 rooms && nat_le rooms 4), OutOfRange) ∷ (no_kind wire, OutOfRange) ∷ [])
+
+-- why an opening amount is not noted
+abbrev pub opening_cause : ℕ → ℕ → Option Refusal
+opening_cause base amount = first_cause ((nat_lt 31 base || nat_lt 1000000000 amount, OverLimit) ∷ [])
 
 -- why a frame in turn is refused
 abbrev pub frame_cause : Sheet → Frame → Option Refusal
-frame_cause s (Begin rooms wire) = first_cause ((not (nat_le 1 rooms && nat_le rooms 4), OutOfRange) ∷ (no_kind wire, OutOfRange) ∷ [])
+frame_cause s (Begin rooms wire) = begin_cause rooms wire
 frame_cause s (PlanLine room set) = line_cause (stage_plan s.stage) set room
-frame_cause s (Opening base amount) = first_cause ((nat_lt 31 base || nat_lt 1000000000 amount, OverLimit) ∷ [])
+frame_cause s (Opening base amount) = opening_cause base amount
 frame_cause s Seal = None
 frame_cause s (Amount room base) = amount_cause (stage_books s.stage) room base
 
@@ -120,3 +125,8 @@ pub record Refused (s t : Sheet) (f : Frame) (cause : Refusal) : Type 0 where
 abbrev pub Acting : Sheet → Sheet → Frame → Result Reply Refusal → Type 0
 Acting s t f (Ok reply) = Taken s t f reply
 Acting s t f (Err cause) = Refused s t f cause
+
+-- what a frame does: one out of turn is not answered here, and changes nothing
+abbrev pub Turning : Sheet → Sheet → Frame → Option (Result Reply Refusal) → Type 0
+Turning s t f None = (in_turn s.stage f ≡ false) × (t ≡ s)
+Turning s t f (Some result) = (in_turn s.stage f ≡ true) × Acting s t f result

@@ -1,7 +1,7 @@
 // One line in, one answer out: the text, the turn and the house layer, one after another.
 ghost use Rattle.std.specs.Prelude.{◌≡◌, ◌≤◌, length};
 ghost use Rattle.frames.specs.Reading.{reading};
-ghost use Rattle.sheets.specs.Lines.{by_turn, after_turn, by_text, after_text, counted, next_line, fault_bytes, LineAnswered};
+ghost use Rattle.sheets.specs.Lines.{by_turn, after_turn, by_text, after_text, counted, answer_bytes, Answered, LineAnswered};
 ghost use Rattle.sheets.specs.Views.{sheet_of};
 ghost use Rattle.answers.specs.Answers.{Fronted};
 
@@ -18,23 +18,8 @@ impl Sheet {
         ensures after { sheet_of self.new ≡ after_turn (sheet_of self.old) frame }
     {
         let kind = frame.kind();
-        if !self.in_turn(&frame) {
-            return Err(Fault::Turn { kind });
-        }
-        match self.act(frame) {
-            Ok(reply) => Ok(reply),
-            Err(cause) => Err(Fault::House { kind, cause }),
-        }
-    }
-
-    // All three layers: the kind of a line's frame and what it is answered with, or the line's fault.
-    fn answer_text(&mut self, line: &[u8]) -> Result<(u8, Reply), Fault>
-        ensures value { result ≡ by_text (sheet_of self.old) (reading line.now) }
-        ensures after { sheet_of self.new ≡ after_text (sheet_of self.old) (reading line.now) }
-    {
-        let frame = read_frame(line)?;
-        let reply = self.answer_frame(frame)?;
-        Ok((frame.kind(), reply))
+        let reply = self.act(frame).ok_or(Fault::Turn { kind })?;
+        reply.map_err(|cause| Fault::House { kind, cause })
     }
 
     // Counts one more line.
@@ -42,6 +27,18 @@ impl Sheet {
         ensures { sheet_of self.new ≡ counted (sheet_of self.old) }
     {
         self.lines = self.lines.saturating_add(1);
+    }
+
+    // Counts a line, and takes it through all three layers: the kind of its frame and what that is answered with, or the
+    // line's fault.
+    fn answer_text(&mut self, line: &[u8]) -> Result<(u8, Reply), Fault>
+        ensures value { result ≡ by_text (counted (sheet_of self.old)) (reading line.now) }
+        ensures after { sheet_of self.new ≡ after_text (counted (sheet_of self.old)) (reading line.now) }
+    {
+        self.count_line();
+        let frame = read_frame(line)?;
+        let reply = self.answer_frame(frame)?;
+        Ok((frame.kind(), reply))
     }
 
     // Takes one line, writes its answer to the front of a buffer of at least 16 bytes, and answers how many bytes it
@@ -52,35 +49,37 @@ impl Sheet {
         if answer.len() < 16 {
             return Err(LineFault::AnswerBuffer);
         }
-        self.count_line();
-        match self.answer_text(line) {
-            Ok((kind, reply)) => match write_taken(kind, reply, answer) {
-                Ok(written) => Ok(written),
-                Err(_) => unreachable(),
-            },
-            Err(fault) => {
-                write_fault(fault, answer);
-                Err(LineFault::Refused {
-                    line: self.lines,
-                    fault,
-                })
-            }
+        let answered = self.answer_text(line);
+        let written = write_answer(answered, answer);
+        match answered {
+            Ok(_) => Ok(written),
+            Err(fault) => Err(LineFault::Refused {
+                line: self.lines,
+                fault,
+            }),
         }
+    }
+
+    // Takes one line, and gives its answer line, which is written to the front of a buffer: of a refused line too.
+    pub fn answer<'a>(&mut self, line: &[u8], buffer: &'a mut [u8; 16]) -> &'a [u8]
+        ensures { Answered (sheet_of self.old) (sheet_of self.new) line.now result.now }
+    {
+        let answered = self.answer_text(line);
+        let written = write_answer(answered, buffer);
+        &buffer[..written]
     }
 }
 
-// Writes the answer that refuses a line to the front of a buffer, whose rest stays.
-fn write_fault(fault: Fault, answer: &mut [u8])
-    requires { 16 ≤ length answer.old }
-    ensures { Fronted (fault_bytes fault) answer.old answer.new 7 }
+// Writes the answer to a line to the front of a buffer, whose rest stays, and answers its length.
+fn write_answer(answered: Result<(u8, Reply), Fault>, buffer: &mut [u8]) -> usize
+    requires { 16 ≤ length buffer.old }
+    ensures { Fronted (answer_bytes answered) buffer.old buffer.new result }
 {
-    let written = match fault {
-        Fault::Text(_) => write_refused(0xFF, Refusal::NotAFrame, Layer::Text, answer),
-        Fault::Turn { kind } => write_refused(kind, Refusal::OutOfTurn, Layer::Turn, answer),
-        Fault::House { kind, cause } => write_refused(kind, cause, Layer::House, answer),
+    let written = match answered {
+        Ok((kind, reply)) => write_taken(kind, reply, buffer),
+        Err(Fault::Text(_)) => write_refused(0xFF, Refusal::NotAFrame, Layer::Text, buffer),
+        Err(Fault::Turn { kind }) => write_refused(kind, Refusal::OutOfTurn, Layer::Turn, buffer),
+        Err(Fault::House { kind, cause }) => write_refused(kind, cause, Layer::House, buffer),
     };
-    match written {
-        Ok(_) => {}
-        Err(_) => unreachable(),
-    }
+    written.unwrap()
 }

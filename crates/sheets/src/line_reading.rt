@@ -9,12 +9,7 @@ pub fn line_end(part: &[u8]) -> Option<usize>
     ensures { MatchOption result ((k : ℕ) → k < length part.now → slice_index part.now k ≢ 10)
         (λ end. (end < length part.now) × (slice_index part.now end ≡ 10) × ((k : ℕ) → k < end → slice_index part.now k ≢ 10)) }
 {
-    for (i, byte) in part.iter().enumerate() {
-        if *byte == b'\n' {
-            return Some(i);
-        }
-    }
-    None
+    part.iter().position(|byte| *byte == b'\n')
 }
 
 // The first so many characters of a part, or all of it where it is shorter.
@@ -22,11 +17,7 @@ fn front(part: &[u8], most: usize) -> &[u8]
     ensures value { result.now ≡ take most part.now }
     ensures len { length result.now ≤ most }
 {
-    if part.len() > most {
-        &part[0..most]
-    } else {
-        part
-    }
+    &part[..part.len().min(most)]
 }
 
 impl LineBuffer {
@@ -57,9 +48,6 @@ impl LineBuffer {
         ensures { self.new.text.items ≡ take 125 (self.old.text.items ++ part.now) }
     {
         let room = 125 - self.text.len();
-        match self.text.extend_from_slice(front(part, room)) {
-            Ok(()) => {}
-            Err(_) => unreachable(),
-        }
+        self.text.extend_from_slice(front(part, room)).unwrap();
     }
 }

@@ -1,20 +1,16 @@
-ghost use Rattle.std.specs.Prelude.{◌≡◌, ◌≤◌, [], vec_len, vec_capacity};
+ghost use Rattle.std.specs.Prelude.{◌≡◌, ◌≤◌, [], ◌∷◌, map, vec_capacity};
+ghost use Rattle.sheets.specs.Books.{spare_in};
 
-use stock::{Entry, StockBook};
+use crate::book_memory::BookMemory;
+use stock::StockBook;
 
-// The memory that the books of a sheet's house lie over, taken before the first line: tables for rooms 0 and 1,
-// journals for rooms 2 and 3, and the list of the books.
+// The memory of the books of a sheet's house, taken before the first line: for each room what its book lies over, tables
+// for rooms 0 and 1 and journals for rooms 2 and 3, and the list of the books.
 #[derive(Drop)]
 pub struct Memory {
-    pub(crate) table_0: Vec<u32>,
-    pub(crate) table_1: Vec<u32>,
-    pub(crate) journal_2: Vec<Entry>,
-    pub(crate) journal_3: Vec<Entry>,
+    pub(crate) rooms: [BookMemory; 4],
     pub(crate) books: Vec<StockBook>,
-    ghost table_0_long: { vec_len table_0 ≡ 32 },
-    ghost table_1_long: { vec_len table_1 ≡ 32 },
-    ghost journal_2_long: { vec_len journal_2 ≡ 1024 },
-    ghost journal_3_long: { vec_len journal_3 ≡ 1024 },
+    ghost kinds: { map spare_in rooms ≡ 4096 ∷ 4096 ∷ 1024 ∷ 1024 ∷ [] },
     ghost books_none: { books.items ≡ [] },
     ghost books_room: { 4 ≤ vec_capacity books },
 }

@@ -1,18 +1,30 @@
-ghost use Rattle.std.specs.Prelude.{◌≡◌, true, false, is_some};
-ghost use Rattle.lists.specs.Words.{any};
-ghost use Rattle.stock.specs.Stock.{over_limit};
-ghost use Rattle.sheets.specs.Ready.{ready};
+ghost use Rattle.std.specs.Prelude.{◌≡◌, IfOk};
+ghost use Rattle.sheets.specs.Lines.{new_sheet};
+ghost use Rattle.sheets.specs.Views.{sheet_of};
 
 use crate::memory::Memory;
+use crate::opening::Opening;
 use crate::stage::Stage;
+use std::alloc::{AllocError, Global};
 
-// A sheet as far as its lines have come, with the memory for a house until one is open.
+// A sheet as far as its lines have come.
 #[derive(Drop)]
 pub struct Sheet {
     pub(crate) lines: u64,
-    pub(crate) opening: [u32; 32],
+    pub(crate) opening: Opening,
     pub(crate) stage: Stage,
-    pub(crate) memory: Option<Memory>,
-    ghost small: { any over_limit opening ≡ false },
-    ghost kept: { ready stage (is_some memory) ≡ true },
+}
+
+impl Sheet {
+    // A new sheet, with all the memory that its lines will need.
+    pub fn new(heap: Global) -> Result<Sheet, AllocError>
+        ensures { IfOk result (λ s. sheet_of s ≡ new_sheet) }
+    {
+        let memory = Memory::take(heap)?;
+        Ok(Sheet {
+            lines: 0,
+            opening: Opening::new(),
+            stage: Stage::Blank { memory },
+        })
+    }
 }

@@ -1,21 +1,14 @@
-use plan::{PlanDraft, SealedPlan};
-use stock::StockBook;
-use wires::WireKind;
+use crate::draft::Draft;
+use crate::memory::Memory;
+use crate::open_house::OpenHouse;
 
-// How far a sheet is.
+// How far a sheet is. The memory of a house is there until it is opened.
 #[derive(Drop)]
 pub enum Stage {
     // no plan is begun
-    Blank,
+    Blank { memory: Memory },
     // a plan is being written
-    Planning {
-        plan: PlanDraft,
-        wire: WireKind,
-    },
+    Planning { draft: Draft, memory: Memory },
     // the house is open
-    Open {
-        plan: SealedPlan,
-        wire: WireKind,
-        books: Vec<StockBook>,
-    },
+    Open(OpenHouse),
 }

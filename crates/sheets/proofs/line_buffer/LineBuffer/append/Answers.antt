@@ -7,5 +7,7 @@ fills old part n e = sym (ap (λ m. take m (old ++ part)) e ∙ take-append-add 
 
 pub returns : goal.returns
 returns c =
-    c.in-Ok.ensures.items ∙ ap (λ l. vec_items c.args.self.now.text ++ l) c.front.ensures.value
-    ∙ fills (vec_items c.args.self.now.text) c.args.part.now (125 - c.len-room.result) (omega (arith, c.args.self.now.text.ok.0, c.args.self.now.few))
+    let ok = c.unwrap.ensures in
+    let items : vec_items c.extend_from_slice.new.self ≡ vec_items c.args.self.now.text ++ c.front.result.now = rw ok at c.extend_from_slice.ensures.items in
+    let e : 125 ≡ length (vec_items c.args.self.now.text) + (125 - c.len-room.result) = omega (arith, c.args.self.now.text.ok.0, c.args.self.now.few) in
+    let f = fills (vec_items c.args.self.now.text) c.args.part.now (125 - c.len-room.result) e in cc

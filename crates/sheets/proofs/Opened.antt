@@ -1,0 +1,29 @@
+-- The books of a house over the memory of its rooms.
+use Rattle.std.proofs.Common.{◌≡◌, ℕ, zero, suc, ◌≤◌, List, [], ◌∷◌, map, take, refl, ap, ◌∙◌, arith}
+use Rattle.lists.specs.Words.{rising}
+use Rattle.stock.specs.Stock.{Amounts, Stock}
+use Rattle.sheets.specs.Books.{spare_in}
+use Rattle.sheets.specs.Steps.{new_book}
+use Rattle.sheets.specs.declared.book_memory.BookMemory.{BookMemory}
+
+-- a new book with so many spare entries
+abbrev pub with_spare : Amounts → ℕ → Stock
+with_spare opening spare = record { amounts = opening; spare = spare }
+
+by_spare : (a : Amounts) (memories : List BookMemory) (rooms : ℕ) → map (λ m. with_spare a (spare_in m)) (take rooms memories) ≡ map (with_spare a) (take rooms (map spare_in memories))
+by_spare a [] zero = refl
+by_spare a [] (suc rooms) = refl
+by_spare a (m ∷ ms) zero = refl
+by_spare a (m ∷ ms) (suc rooms) = ap (λ books. with_spare a (spare_in m) ∷ books) (by_spare a ms rooms)
+
+by_room : (a : Amounts) (rooms : ℕ) → rooms ≤ 4 → map (with_spare a) (take rooms (4096 ∷ 4096 ∷ 1024 ∷ 1024 ∷ [])) ≡ map (new_book a) (rising 0 rooms)
+by_room a zero h = refl
+by_room a (suc zero) h = refl
+by_room a (suc (suc zero)) h = refl
+by_room a (suc (suc (suc zero))) h = refl
+by_room a (suc (suc (suc (suc zero)))) h = refl
+by_room a (suc (suc (suc (suc (suc rooms))))) h = absurd (omega arith)
+
+pub opened : (a : Amounts) (memories : List BookMemory) (rooms : ℕ) → map spare_in memories ≡ 4096 ∷ 4096 ∷ 1024 ∷ 1024 ∷ [] → rooms ≤ 4 →
+    map (λ m. with_spare a (spare_in m)) (take rooms memories) ≡ map (new_book a) (rising 0 rooms)
+opened a memories rooms e h = by_spare a memories rooms ∙ ap (λ spares. map (with_spare a) (take rooms spares)) e ∙ by_room a rooms h

@@ -1,0 +1,12 @@
+use Rattle.std.proofs.Common.{◌≡◌, ◌≤◌, map, length, vec_len, vec_items, vec_capacity}
+use Rattle.stock.specs.StockBook.{book_holds}
+use Rattle.sheets.specs.Books.{spare_in}
+use Rattle.sheets.specs.Views.{amounts_of}
+use Rattle.sheets.proofs.memory.Memory.open_books.Given as goal
+
+abbrev pub invariant-loop-memory : goal.invariant-loop-memory
+invariant-loop-memory l = record {
+  space : 4 ≤ vec_capacity l.books;
+  count : vec_len l.books ≡ length l.yielded;
+  held : map book_holds (vec_items l.books) ≡ map (λ m. record { amounts = amounts_of l.opening; spare = spare_in m }) l.yielded;
+}

@@ -1,0 +1,9 @@
+use Rattle.std.proofs.lemmas.Bool.{le-ltb}
+use Rattle.stock.specs.Stock.{over_limit}
+use Rattle.sheets.proofs.Amounts.{small-set}
+use Rattle.sheets.proofs.opening.Opening.note.Goals as goal
+
+pub invariant_of-self : goal.invariant_of-self
+invariant_of-self c = record {
+  small = small-set over_limit c.args.self.now.amounts c.args.base c.args.amount c.args.self.now.small (le-ltb 1000000000 c.args.amount c.if-amount-gt-LIMIT.false);
+}

@@ -1,0 +1,8 @@
+ghost use Rattle.std.specs.Prelude.{◌≡◌, vec_len};
+
+// A buffer of so many elements, taken before the first line.
+#[derive(Drop)]
+pub struct Buffer<T, const N: usize> {
+    pub(crate) elements: Vec<T>,
+    ghost long: { vec_len elements ≡ N },
+}

@@ -1,0 +1,12 @@
+ghost use Rattle.std.specs.Prelude.{◌≤◌};
+
+use plan::PlanDraft;
+use wires::WireKind;
+
+// A plan that is being written for at most four rooms, and the kind of wire that its house will have.
+#[derive(Drop)]
+pub struct Draft {
+    pub(crate) plan: PlanDraft,
+    pub(crate) wire: WireKind,
+    ghost few: { plan.rooms ≤ 4 },
+}

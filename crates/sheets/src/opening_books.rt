@@ -1,0 +1,76 @@
+// Taking the memory of a house's books, and opening the books over it.
+ghost use Rattle.std.specs.Prelude.{◌≡◌, ◌≤◌, map, IfOk};
+ghost use Rattle.lists.specs.Words.{rising};
+ghost use Rattle.stock.specs.StockBook.{book_holds};
+ghost use Rattle.sheets.specs.Books.{spare_in};
+ghost use Rattle.sheets.specs.Steps.{new_book};
+ghost use Rattle.sheets.specs.Views.{amounts_of};
+
+use crate::book_memory::BookMemory;
+use crate::buffer::Buffer;
+use crate::memory::Memory;
+use crate::opening::Opening;
+use std::alloc::{AllocError, Global};
+use stock::{Entry, Journal, StockBook, Table};
+
+impl BookMemory {
+    // Takes the memory of a table.
+    fn table(heap: Global) -> Result<BookMemory, AllocError>
+        ensures { IfOk result (λ m. spare_in m ≡ 4096) }
+    {
+        let elements = vec![in heap; 0; 32]?;
+        Ok(BookMemory::Table(Buffer { elements }))
+    }
+
+    // Takes the memory of a journal.
+    fn journal(heap: Global) -> Result<BookMemory, AllocError>
+        ensures { IfOk result (λ m. spare_in m ≡ 1024) }
+    {
+        let elements = vec![in heap; Entry { base: 0, amount: 0 }; 1024]?;
+        Ok(BookMemory::Journal(Buffer { elements }))
+    }
+
+    // Opens the book with the opening amounts.
+    fn open(self, opening: &Opening) -> StockBook
+        ensures { book_holds result ≡ record { amounts = amounts_of opening.now; spare = spare_in self } }
+    {
+        let amounts = opening.as_array();
+        match self {
+            BookMemory::Table(buffer) => {
+                let table = Table::open(buffer.elements, amounts).unwrap();
+                StockBook::Table(table)
+            }
+            BookMemory::Journal(buffer) => {
+                let journal = Journal::open(buffer.elements, amounts).unwrap();
+                StockBook::Journal(journal)
+            }
+        }
+    }
+}
+
+impl Memory {
+    // Takes the memory of four books.
+    pub(crate) fn take(heap: Global) -> Result<Memory, AllocError> {
+        Ok(Memory {
+            rooms: [
+                BookMemory::table(heap)?,
+                BookMemory::table(heap)?,
+                BookMemory::journal(heap)?,
+                BookMemory::journal(heap)?,
+            ],
+            books: Vec::with_capacity(heap, 4)?,
+        })
+    }
+
+    // Opens the books of so many rooms, all with the same amounts.
+    pub(crate) fn open_books(self, rooms: u8, opening: &Opening) -> Vec<StockBook>
+        requires { rooms ≤ 4 }
+        ensures { map book_holds result.items ≡ map (new_book (amounts_of opening.now)) (rising 0 rooms) }
+    {
+        let mut books = self.books;
+        for memory in self.rooms.into_iter().take(rooms as usize) {
+            books.push_reserved(memory.open(opening));
+        }
+        books
+    }
+}
