@@ -3,18 +3,9 @@
 #![tactic(auto)]
 
 use sheets::Sheet;
-use sheets::line_reading::line_end;
 use std::alloc::{AllocError, Global};
 use std::fs;
 use std::io::{BufRead, BufReader};
-
-// The first line of a text, without its line feed, and the rest of the text.
-fn cut(text: &[u8]) -> (&[u8], &[u8]) {
-    match line_end(text) {
-        Some(end) => (&text[0..end], &text[end + 1..]),
-        None => (text, &text[text.len()..]),
-    }
-}
 
 // Whether a line begins with a kind that comes with a later delivery.
 fn comes_later(line: &[u8]) -> bool {
@@ -28,26 +19,17 @@ fn opening_agrees(
     answers: &[u8],
 ) -> Result<Option<usize>, AllocError> {
     let mut sheet = Sheet::new(heap)?;
-    let mut lines = sheet_text;
-    let mut stored = answers;
+    let mut stored = answers.split(|byte| *byte == b'\n');
     let mut agreed: usize = 0;
-    for _ in 0..sheet_text.len() {
-        if lines.is_empty() {
-            break;
-        }
-        let (line, lines_after) = cut(lines);
-        let (wanted, stored_after) = cut(stored);
-        lines = lines_after;
-        stored = stored_after;
+    for line in sheet_text.split_inclusive(|byte| *byte == b'\n') {
+        let wanted = stored.next().unwrap_or_default();
+        let line = line.strip_suffix(b"\n").unwrap_or(line);
         if comes_later(line) {
             continue;
         }
-        let mut answer = [0; 16];
-        let written = match sheet.take_line(line, &mut answer) {
-            Ok(written) => written,
-            Err(_) => 7,
-        };
-        let (got, _) = cut(&answer[0..written]);
+        let mut buffer = [0; 16];
+        let answer = sheet.answer(line, &mut buffer);
+        let got = answer.strip_suffix(b"\n").unwrap_or(answer);
         if got != wanted {
             return Ok(None);
         }

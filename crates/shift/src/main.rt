@@ -12,13 +12,10 @@ fn answer_line<W: Write>(
     line: &mut LineBuffer,
     output: &mut W,
 ) -> io::Result<()> {
-    let mut answer = [0; 16];
-    let written = match sheet.take_line(line.text(), &mut answer) {
-        Ok(written) => written,
-        Err(_) => 7,
-    };
+    let mut buffer = [0; 16];
+    let answer = sheet.answer(line.text(), &mut buffer);
     line.clear();
-    output.write_all(&answer[0..written])
+    output.write_all(answer)
 }
 
 fn main(rt: HostRuntime) -> io::Result<()> {
@@ -26,7 +23,7 @@ fn main(rt: HostRuntime) -> io::Result<()> {
     let mut line = LineBuffer::new(rt.alloc())?;
     let mut input = BufReader::new(rt.alloc(), rt.stdin())?;
     let mut output = BufWriter::new(rt.alloc(), rt.stdout())?;
-    let mut begun = false;
+    // A counted loop: that an input comes to an end is known to no proof.
     for _ in 0..u64::MAX {
         let part = input.fill_buf()?;
         if part.is_empty() {
@@ -34,20 +31,18 @@ fn main(rt: HostRuntime) -> io::Result<()> {
         }
         let used = match line_end(part) {
             Some(end) => {
-                line.append(&part[0..end]);
+                line.append(&part[..end]);
                 answer_line(&mut sheet, &mut line, &mut output)?;
-                begun = false;
                 end + 1
             }
             None => {
                 line.append(part);
-                begun = true;
                 part.len()
             }
         };
         input.consume(used);
     }
-    if begun {
+    if !line.text().is_empty() {
         answer_line(&mut sheet, &mut line, &mut output)?;
     }
     output.flush()
