@@ -126,7 +126,7 @@ abbrev pub Acting : Sheet → Sheet → Frame → Result Reply Refusal → Type 
 Acting s t f (Ok reply) = Taken s t f reply
 Acting s t f (Err cause) = Refused s t f cause
 
--- what a frame does: one out of turn is not answered here, and changes nothing
+-- what a frame does: out of turn it has no answer here and changes nothing, and in turn the house takes or refuses it
 abbrev pub Turning : Sheet → Sheet → Frame → Option (Result Reply Refusal) → Type 0
 Turning s t f None = (in_turn s.stage f ≡ false) × (t ≡ s)
 Turning s t f (Some result) = (in_turn s.stage f ≡ true) × Acting s t f result
