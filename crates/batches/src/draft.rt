@@ -23,12 +23,3 @@ pub struct Unsealed {
     pub draft: BatchDraft,
     pub refusal: Refusal,
 }
-
-impl From<Unsealed> for Refusal {
-    ghost from_gives = { λ unsealed refusal. refusal ≡ unsealed.refusal };
-
-    // Why the batch could not be sealed.
-    fn from(unsealed: Unsealed) -> Refusal {
-        unsealed.refusal
-    }
-}

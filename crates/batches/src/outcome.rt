@@ -52,6 +52,7 @@ pub(crate) struct Failed {
 
 // The result of a run: its outcome, the place of the step that failed, counted from 1, or 0, and the amounts of the
 // bases of the batch's set after the run, by rising base, as eight with 0 after them.
+// A rule of the project: the three are announced side by side, and so no `Result`.
 #[derive(Clone, Copy, PartialEq, Eq, Debug)]
 pub struct RunResult {
     pub outcome: Outcome,

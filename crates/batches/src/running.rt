@@ -73,7 +73,7 @@ fn sum_within_limit(there: u32, amount: u32) -> Result<u32, Failure>
 // The amount of a base.
 fn held(amounts: &[u32; 32], base: u8) -> u32
     requires { base < 32 }
-    ensures value { result ≡ amounts_in amounts.now base }
+    ensures { result ≡ amounts_in amounts.now base }
 {
     amounts[base as usize]
 }
@@ -81,7 +81,7 @@ fn held(amounts: &[u32; 32], base: u8) -> u32
 // Replaces the amount of a base.
 fn put(amounts: &mut [u32; 32], base: u8, amount: u32)
     requires { base < 32 }
-    ensures after { amounts_in amounts.new ≡ updated (amounts_in amounts.old) base amount }
+    ensures { amounts_in amounts.new ≡ updated (amounts_in amounts.old) base amount }
 {
     amounts[base as usize] = amount;
 }

@@ -64,3 +64,12 @@ impl BatchDraft {
         Ok(SealedBatch { set, steps })
     }
 }
+
+impl From<Unsealed> for Refusal {
+    ghost from_gives = { λ unsealed refusal. refusal ≡ unsealed.refusal };
+
+    // Why the batch could not be sealed.
+    fn from(unsealed: Unsealed) -> Refusal {
+        unsealed.refusal
+    }
+}
