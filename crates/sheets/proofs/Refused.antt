@@ -2,7 +2,7 @@
 use Rattle.std.proofs.Common.{◌≡◌, ℕ, Bool, true, false, cond, List, length, Some, None, Ok, Err, Option, Result, sym, refl, ap, ◌∙◌, subst}
 use Rattle.refusals.specs.declared.refusal.Refusal.{Refusal}
 use Rattle.frames.specs.Reading.{reading}
-use Rattle.frames.specs.Kinds.{number_of as kind_of}
+use Rattle.frames.specs.Kinds.{frame_kind}
 use Rattle.frames.specs.declared.frame.Frame.{Frame}
 use Rattle.frames.specs.declared.frame.TextFault.{TextFault}
 use Rattle.answers.specs.Answers.{line_of, Fronted}
@@ -13,7 +13,7 @@ use Rattle.sheets.specs.Steps.{in_turn, frame_cause}
 use Rattle.sheets.specs.Lines.{by_house, with_kind, by_text, after_house, after_text, Answer, counted, fault_bytes, answer_bytes, TurnedDown}
 
 turn-same : (s : Sheet) (g : Frame) (f : Fault) (turn : Bool) (cause : Option Refusal) →
-    with_kind (kind_of g) (cond turn (by_house s g cause) (Err (Turn (kind_of g)))) ≡ Err f → cond turn (after_house s g cause) s ≡ s
+    with_kind (frame_kind g) (cond turn (by_house s g cause) (Err (Turn (frame_kind g)))) ≡ Err f → cond turn (after_house s g cause) s ≡ s
 turn-same s g f true None e = cc
 turn-same s g f true (Some c) e = refl
 turn-same s g f false cause e = refl

@@ -3,7 +3,8 @@ use Rattle.std.specs.Prelude.{◌≡◌, ℕ, ◌+◌, ◌-◌, ◌^◌, ◌<◌
 use Rattle.refusals.specs.Causes.{number_of}
 use Rattle.refusals.specs.declared.refusal.Refusal.{Refusal}
 use Rattle.refusals.specs.declared.refusal.Refusal.TheVariants.{NotAFrame, OutOfTurn}
-use Rattle.frames.specs.Kinds.{number_of as kind_of}
+use Rattle.frames.specs.Kinds.{frame_kind, kind_number}
+use Rattle.frames.specs.declared.kind.FrameKind.{FrameKind}
 use Rattle.frames.specs.Reading.{reading}
 use Rattle.frames.specs.declared.frame.Frame.{Frame}
 use Rattle.frames.specs.declared.frame.TextFault.{TextFault}
@@ -32,23 +33,23 @@ counted s = record { lines = next_line s; opening = s.opening; stage = s.stage }
 -- the house layer: a frame in turn is taken, or refused for its cause
 abbrev pub by_house : Sheet → Frame → Option Refusal → Result Reply Fault
 by_house s f None = Ok (frame_reply s f)
-by_house s f (Some e) = Err (House (kind_of f) e)
+by_house s f (Some e) = Err (House (frame_kind f) e)
 
 -- the turn layer: a frame out of turn goes no further
 abbrev pub by_turn : Sheet → Frame → Result Reply Fault
-by_turn s f = cond (in_turn s.stage f) (by_house s f (frame_cause s f)) (Err (Turn (kind_of f)))
+by_turn s f = cond (in_turn s.stage f) (by_house s f (frame_cause s f)) (Err (Turn (frame_kind f)))
 
 -- what a frame is answered with: its kind, and the reply
 abbrev pub Answer : Type 0
-Answer = ℕ × Reply
+Answer = FrameKind × Reply
 
-abbrev pub with_kind : ℕ → Result Reply Fault → Result Answer Fault
+abbrev pub with_kind : FrameKind → Result Reply Fault → Result Answer Fault
 with_kind kind (Ok reply) = Ok (kind, reply)
 with_kind kind (Err e) = Err e
 
 -- the text layer: a line that is no frame goes no further
 abbrev pub by_text : Sheet → Result Frame TextFault → Result Answer Fault
-by_text s (Ok f) = with_kind (kind_of f) (by_turn s f)
+by_text s (Ok f) = with_kind (frame_kind f) (by_turn s f)
 by_text s (Err e) = Err (Text e)
 
 -- the sheet after a frame: a refused one changes nothing
@@ -66,12 +67,12 @@ after_text s (Err e) = s
 -- the bytes of the answer that refuses a line
 abbrev pub fault_bytes : Fault → List ℕ
 fault_bytes (Text e) = refused_bytes 255 (number_of NotAFrame) TextLayer
-fault_bytes (Turn kind) = refused_bytes kind (number_of OutOfTurn) TurnLayer
-fault_bytes (House kind cause) = refused_bytes kind (number_of cause) HouseLayer
+fault_bytes (Turn kind) = refused_bytes (kind_number kind) (number_of OutOfTurn) TurnLayer
+fault_bytes (House kind cause) = refused_bytes (kind_number kind) (number_of cause) HouseLayer
 
 -- the bytes of a line's answer
 abbrev pub answer_bytes : Result Answer Fault → List ℕ
-answer_bytes (Ok answer) = taken_bytes answer.0 answer.1
+answer_bytes (Ok answer) = taken_bytes (kind_number answer.0) answer.1
 answer_bytes (Err fault) = fault_bytes fault
 
 -- a line that is answered: it is counted, its frame has its effect, and the answer line is given
@@ -84,7 +85,7 @@ pub record Taken (s t : Sheet) (line old new : List ℕ) (written : ℕ) : Type 
   pub answer : Answer
   pub answered : by_text (counted s) (reading line) ≡ Ok answer
   pub sheet : t ≡ after_text (counted s) (reading line)
-  pub buffer : Fronted (taken_bytes answer.0 answer.1) old new written
+  pub buffer : Fronted (taken_bytes (kind_number answer.0) answer.1) old new written
 
 -- a refused line: the fault tells layer and place, the line is counted, and the answer that refuses it is written
 pub record TurnedDown (s t : Sheet) (line old new : List ℕ) (number : ℕ) (fault : Fault) : Type 0 where

@@ -8,7 +8,7 @@ ghost use Rattle.answers.specs.Answers.{Fronted};
 use crate::fault::{Fault, LineFault};
 use crate::sheet::Sheet;
 use answers::{Layer, Reply, write_refused, write_taken};
-use frames::{Frame, read_frame};
+use frames::{Frame, FrameKind, read_frame};
 use refusals::Refusal;
 
 impl Sheet {
@@ -31,7 +31,7 @@ impl Sheet {
 
     // Counts a line, and takes it through all three layers: the kind of its frame and what that is answered with, or the
     // line's fault.
-    fn answer_text(&mut self, line: &[u8]) -> Result<(u8, Reply), Fault>
+    fn answer_text(&mut self, line: &[u8]) -> Result<(FrameKind, Reply), Fault>
         ensures value { result ≡ by_text (counted (sheet_of self.old)) (reading line.now) }
         ensures after { sheet_of self.new ≡ after_text (counted (sheet_of self.old)) (reading line.now) }
     {
@@ -71,15 +71,15 @@ impl Sheet {
 }
 
 // Writes the answer to a line to the front of a buffer, whose rest stays, and answers its length.
-fn write_answer(answered: Result<(u8, Reply), Fault>, buffer: &mut [u8]) -> usize
+fn write_answer(answered: Result<(FrameKind, Reply), Fault>, buffer: &mut [u8]) -> usize
     requires { 16 ≤ length buffer.old }
     ensures { Fronted (answer_bytes answered) buffer.old buffer.new result }
 {
     let written = match answered {
-        Ok((kind, reply)) => write_taken(kind, reply, buffer),
+        Ok((kind, reply)) => write_taken(kind.into(), reply, buffer),
         Err(Fault::Text(_)) => write_refused(0xFF, Refusal::NotAFrame, Layer::Text, buffer),
-        Err(Fault::Turn { kind }) => write_refused(kind, Refusal::OutOfTurn, Layer::Turn, buffer),
-        Err(Fault::House { kind, cause }) => write_refused(kind, cause, Layer::House, buffer),
+        Err(Fault::Turn { kind }) => write_refused(kind.into(), Refusal::OutOfTurn, Layer::Turn, buffer),
+        Err(Fault::House { kind, cause }) => write_refused(kind.into(), cause, Layer::House, buffer),
     };
     written.unwrap()
 }

@@ -1,4 +1,5 @@
 ghost use Rattle.std.specs.Prelude.{◌≤◌};
+ghost use Rattle.plan.specs.Plans.{draft_of};
 
 use plan::PlanDraft;
 use wires::WireKind;
@@ -8,5 +9,5 @@ use wires::WireKind;
 pub struct Draft {
     pub(crate) plan: PlanDraft,
     pub(crate) wire: WireKind,
-    ghost few: { plan.rooms ≤ 4 },
+    ghost few: { (draft_of plan).rooms ≤ 4 },
 }

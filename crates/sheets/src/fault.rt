@@ -2,18 +2,18 @@
 ghost use Rattle.std.specs.Prelude.{◌≡◌};
 ghost use Rattle.sheets.specs.declared.fault.Fault.TheVariants.{Text};
 
-use frames::TextFault;
+use frames::{FrameKind, TextFault};
 use refusals::Refusal;
 
 // The fault of a line, by the layer that found it.
-#[derive(Clone, Copy)]
+#[derive(Clone, Copy, PartialEq, Eq, Debug)]
 pub enum Fault {
     // the text: the line is no frame from this place on
     Text(TextFault),
     // the turn: the frame comes at the wrong time
-    Turn { kind: u8 },
+    Turn { kind: FrameKind },
     // the house: the frame is refused for a cause
-    House { kind: u8, cause: Refusal },
+    House { kind: FrameKind, cause: Refusal },
 }
 
 // A fault of the text is a fault of the line.
@@ -26,7 +26,7 @@ impl From<TextFault> for Fault {
 }
 
 // Why a line has no answer, or an answer that refuses it.
-#[derive(Clone, Copy)]
+#[derive(Clone, Copy, PartialEq, Eq, Debug)]
 pub enum LineFault {
     // the answer buffer is too short: nothing is written, and the line does not count
     AnswerBuffer,
