@@ -27,7 +27,7 @@ impl Draft {
             return Err(Refusal::OutOfRange);
         }
         let plan = PlanDraft::begin(rooms)?;
-        let wire = WireKind::from_number(wire)?;
+        let wire = WireKind::try_from(wire)?;
         Ok(Draft { plan, wire })
     }
 

@@ -3,26 +3,28 @@ ghost use Rattle.wires.specs.Kinds.{kind_number, KindRead};
 
 use refusals::Refusal;
 
-// The kinds of wires, which have the numbers 1, 2 and 3.
+// The kinds of wires, and the number of each.
 #[derive(Clone, Copy, PartialEq, Eq, Debug)]
 pub enum WireKind {
-    Sequenced,
+    Sequenced = 1,
     Turn,
     Directed,
 }
 
-impl WireKind {
-    // The number of a kind.
-    pub fn number(self) -> u8
-        ensures { result ≡ kind_number self }
-    {
-        self as u8 + 1
-    }
+impl From<WireKind> for u8 {
+    ghost from_gives = { λ kind number. number ≡ kind_number kind };
 
-    // The kind that has a number; refused where none has it.
-    pub fn from_number(number: u8) -> Result<WireKind, Refusal>
-        ensures { KindRead number result }
-    {
+    fn from(kind: WireKind) -> u8 {
+        kind as u8
+    }
+}
+
+impl TryFrom<u8> for WireKind {
+    type Error = Refusal;
+
+    ghost try_from_gives = { KindRead };
+
+    fn try_from(number: u8) -> Result<WireKind, Refusal> {
         match number {
             1 => Ok(WireKind::Sequenced),
             2 => Ok(WireKind::Turn),
