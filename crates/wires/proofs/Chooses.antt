@@ -1,17 +1,17 @@
 -- What a ledger's policy may rely on: the first of an order of preference may be chosen, and where there is none nothing
 -- is left.
-use Rattle.std.specs.Prelude.{◌≡◌, ℕ, ◌<◌, true, List, map, Some, None, vec_items, Option, slice_index_or}
+use Rattle.std.specs.Prelude.{◌≡◌, ℕ, ◌<◌, true, List, map, Some, None, vec_items, Option}
 use Rattle.std.proofs.Common.{sym, ◌∙◌}
 use Rattle.wire.specs.Wire.{Posted}
 use Rattle.wire.specs.Calls.{Chosen, all_there}
 use Rattle.wires.specs.Laws.{sound_of}
 use Rattle.wires.specs.Meaning.{meaning_of}
 use Rattle.wires.specs.Orders.{head, Orders}
-use Rattle.wires.specs.Parts.{posted_of, numbers_of}
+use Rattle.wires.specs.Parts.{posted_of, numbers_of, kept_of, kept_in}
 use Rattle.wires.specs.declared.ledger.Ledger.{Ledger}
 use Rattle.wires.specs.declared.page.Page.{Page}
 use Rattle.wires.specs.declared.post.Post.{Post}
-use Rattle.wires.proofs.Ledgers.{chosen-small, read_is}
+use Rattle.wires.proofs.Ledgers.{chosen-small}
 use Rattle.wires.proofs.Preferences.{first-chosen, none_left}
 
 module _ (l : Ledger) where
@@ -26,6 +26,5 @@ module _ (l : Ledger) where
     all-chosen choice e is = none_left (meaning_of l) list order (sound_of l).posts_rooms orders (sym e ∙ is)
 
   -- an order for a room's tentative list, from the posts and the page that were read
-  pub telling-choice : (order : List Posted → List ℕ → List ℕ) (room : ℕ) (page : Page) (posts : List Post) (choice : Option ℕ) → room < 8 → page ≡ slice_index_or (vec_items l.pages) room page → posts ≡ vec_items l.posts → choice ≡ head (order (map posted_of posts) (numbers_of page.told)) → choice ≡ head (order (meaning_of l).posts ((meaning_of l).tentative room))
-  telling-choice order room page posts choice small read same e =
-      e ∙ (λ i. head (order (map posted_of (same i)) (read_is l room page page small read i).told))
+  pub telling-choice : (order : List Posted → List ℕ → List ℕ) (room : ℕ) (page : Page) (posts : List Post) (choice : Option ℕ) → kept_of page ≡ kept_in (vec_items l.pages) room → posts ≡ vec_items l.posts → choice ≡ head (order (map posted_of posts) (numbers_of page.told)) → choice ≡ head (order (meaning_of l).posts ((meaning_of l).tentative room))
+  telling-choice order room page posts choice read same e = e ∙ (λ i. head (order (map posted_of (same i)) (read i).told))

@@ -22,6 +22,17 @@ trues-few [] = omega arith
 trues-few (true ∷ ms) = omega (arith, trues-few ms)
 trues-few (false ∷ ms) = omega (arith, trues-few ms)
 
+-- a mark more that is not set changes nothing
+pub unmarked-push : (marks : List Bool) (b : ℕ) → slice_index_or (marks ++ false ∷ []) b false ≡ slice_index_or marks b false
+unmarked-push [] zero = refl
+unmarked-push [] (suc b) = refl
+unmarked-push (m ∷ ms) zero = refl
+unmarked-push (m ∷ ms) (suc b) = unmarked-push ms b
+
+pub trues-push : (marks : List Bool) → trues (marks ++ false ∷ []) ≡ trues marks
+trues-push [] = omega arith
+trues-push (m ∷ ms) = omega (arith, trues-push ms)
+
 module _ (marks : List Bool) (b : ℕ) (within : b < length marks) where
   -- a mark more is set
   pub mark_set : (k : ℕ) → slice_index_or (slice_set marks b true) k false ≡ (slice_index_or marks k false || k == b)

@@ -1,5 +1,6 @@
 pub mod Kept
 pub mod Parts
+pub mod RoomNumbers
 pub mod Meaning
 pub mod Orders
 pub mod Kinds

@@ -4,6 +4,11 @@ use Rattle.std.specs.List.{flat_map}
 use Rattle.lists.specs.Words.{all, member, keep, rising}
 use Rattle.wire.specs.Wire.{Posted}
 
+-- the posts, and a list that lacks some of them
+pub record Lacking : Type 0 where
+  pub posts : List Posted
+  pub list : List ℕ
+
 -- the first of an order, if it has any
 abbrev pub head : List ℕ → Option ℕ
 head [] = None

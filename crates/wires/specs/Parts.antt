@@ -1,5 +1,5 @@
 -- What the parts of a ledger hold.
-use Rattle.std.specs.Prelude.{ℕ, List, map, vec_items, slice_index, slice_index_or}
+use Rattle.std.specs.Prelude.{ℕ, Bool, List, map, vec_items, slice_index, slice_index_or}
 use Rattle.batches.specs.Sealed.{batch_of}
 use Rattle.wire.specs.Wire.{Posted}
 use Rattle.wire.specs.declared.announcement.Announcement.{Announcement}
@@ -14,7 +14,11 @@ numbers_of l = vec_items l.numbers
 
 -- a posted batch
 abbrev pub posted_of : Post → Posted
-posted_of p = record { room = p.room; batch = batch_of p.batch }
+posted_of p = record { room = p.room.number; batch = batch_of p.batch }
+
+-- which posted batches were announced
+abbrev pub marks_of : List Post → List Bool
+marks_of posts = map (λ (p : Post). p.announced) posts
 
 -- what a page keeps for its room
 abbrev pub kept_of : Page → Kept

@@ -5,11 +5,10 @@ ghost use Rattle.wires.specs.declared.any_policy.AnyPolicy.TheVariants.{Sequence
 ghost use Rattle.wires.specs.Laws.{left_orders, left_round_orders, wish_first_orders, own_first_orders};
 
 use crate::any_policy::AnyPolicy;
-use crate::batch_list::BatchList;
 use crate::directed::Directed;
 use crate::kind::WireKind;
+use crate::left::Left;
 use crate::policy::Policy;
-use crate::post::Post;
 use crate::sequenced::Sequenced;
 use crate::turn::Turn;
 
@@ -55,19 +54,19 @@ impl Policy for AnyPolicy {
         AnyPolicy::of_kind(WireKind::Sequenced)
     }
 
-    fn choose_number(&self, posts: &[Post], definitive: &BatchList) -> Option<usize> {
+    fn choose_number(&self, left: &Left) -> Option<usize> {
         match self {
-            AnyPolicy::Sequenced(p) => p.choose_number(posts, definitive),
-            AnyPolicy::Turn(p) => p.choose_number(posts, definitive),
-            AnyPolicy::Directed(p) => p.choose_number(posts, definitive),
+            AnyPolicy::Sequenced(p) => p.choose_number(left),
+            AnyPolicy::Turn(p) => p.choose_number(left),
+            AnyPolicy::Directed(p) => p.choose_number(left),
         }
     }
 
-    fn choose_telling(&self, posts: &[Post], tentative: &BatchList, room: u8) -> Option<usize> {
+    fn choose_telling(&self, left: &Left, room: u8) -> Option<usize> {
         match self {
-            AnyPolicy::Sequenced(p) => p.choose_telling(posts, tentative, room),
-            AnyPolicy::Turn(p) => p.choose_telling(posts, tentative, room),
-            AnyPolicy::Directed(p) => p.choose_telling(posts, tentative, room),
+            AnyPolicy::Sequenced(p) => p.choose_telling(left, room),
+            AnyPolicy::Turn(p) => p.choose_telling(left, room),
+            AnyPolicy::Directed(p) => p.choose_telling(left, room),
         }
     }
 

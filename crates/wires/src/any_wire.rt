@@ -5,9 +5,9 @@ ghost use Rattle.wires.specs.Meaning.{meaning_of};
 
 use crate::any_policy::AnyPolicy;
 use crate::kind::WireKind;
-use crate::ledger::Ledger;
 use crate::policy_wire::PolicyWire;
 use std::alloc::{AllocError, Global};
+use wire::Wire;
 
 impl PolicyWire<AnyPolicy> {
     // A new wire of a kind.
@@ -15,10 +15,9 @@ impl PolicyWire<AnyPolicy> {
         ensures after { IfOk result (λ w. meaning_of w.ledger ≡ new_wire) }
         ensures policy { IfOk result (λ w. w.policy ≡ any_fresh kind) }
     {
-        let ledger = Ledger::open(heap)?;
         Ok(PolicyWire {
-            ledger,
             policy: AnyPolicy::of_kind(kind),
+            ..PolicyWire::open(heap)?
         })
     }
 }

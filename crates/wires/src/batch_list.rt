@@ -1,7 +1,8 @@
 ghost use Rattle.std.specs.Prelude.{◌≡◌, ℕ, ◌≤◌, false, vec_len, vec_capacity, slice_index_or};
 ghost use Rattle.lists.specs.Words.{member};
 
-// A list of batch numbers below 256, with a mark for each number that tells whether it is there.
+// A list of batch numbers below 256, with a mark for each number that tells whether it is there: an index that answers in
+// one step, where a set of the library would ask for memory at an insert.
 #[derive(Drop)]
 pub struct BatchList {
     pub(crate) numbers: Vec<u16>,

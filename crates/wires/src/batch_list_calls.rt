@@ -1,10 +1,9 @@
-ghost use Rattle.std.specs.Prelude.{◌≡◌, ℕ, ◌<◌, [], ◌∷◌, ◌++◌, map, length, IfOk};
+ghost use Rattle.std.specs.Prelude.{◌≡◌, ℕ, ◌<◌, [], ◌∷◌, ◌++◌, length, IfOk};
 ghost use Rattle.lists.specs.Words.{member};
-ghost use Rattle.wires.specs.Orders.{head, left, left_of, left_round};
-ghost use Rattle.wires.specs.Parts.{numbers_of, posted_of};
+ghost use Rattle.wires.specs.Parts.{numbers_of};
 
 use crate::batch_list::BatchList;
-use crate::post::Post;
+use crate::limits::BATCHES;
 use std::alloc::{AllocError, Global};
 
 impl BatchList {
@@ -12,8 +11,8 @@ impl BatchList {
     pub(crate) fn open(heap: Global) -> Result<BatchList, AllocError>
         ensures { IfOk result (λ l. numbers_of l ≡ []) }
     {
-        let numbers = Vec::with_capacity(heap, 256)?;
-        let marks = vec![in heap; false; 256]?;
+        let numbers = Vec::with_capacity(heap, BATCHES)?;
+        let marks = vec![in heap; false; BATCHES]?;
         Ok(BatchList { numbers, marks })
     }
 
@@ -39,52 +38,5 @@ impl BatchList {
     {
         self.numbers.push_reserved(batch);
         self.marks[batch as usize] = true;
-    }
-
-    // Whether a batch is posted and not in the list.
-    pub fn leaves(&self, posts: &[Post], batch: usize) -> bool
-        ensures { result ≡ member batch (left (map posted_of posts.now) (numbers_of self.now)) }
-    {
-        batch < posts.len() && !self.holds(batch)
-    }
-
-    // The oldest of the posted batches that the list lacks.
-    pub fn oldest_left(&self, posts: &[Post]) -> Option<usize>
-        ensures { result ≡ head (left (map posted_of posts.now) (numbers_of self.now)) }
-    {
-        for batch in 0..posts.len() {
-            if !self.holds(batch) {
-                return Some(batch);
-            }
-        }
-        None
-    }
-
-    // The oldest of those that a room posted.
-    pub fn oldest_left_of(&self, posts: &[Post], room: u8) -> Option<usize>
-        ensures { result ≡ head (left_of (map posted_of posts.now) (numbers_of self.now) room) }
-    {
-        for batch in 0..posts.len() {
-            if posts[batch].room == room && !self.holds(batch) {
-                return Some(batch);
-            }
-        }
-        None
-    }
-
-    // Going round the rooms from one of them, the oldest of those that the first room with any posted.
-    pub fn oldest_left_round(&self, posts: &[Post], from: u8) -> Option<usize>
-        ensures { result ≡ head (left_round (map posted_of posts.now) (numbers_of self.now) from) }
-    {
-        if self.oldest_left(posts).is_none() {
-            return None;
-        }
-        for step in 0..8 {
-            let room = (from as usize + step) % 8;
-            if let Some(batch) = self.oldest_left_of(posts, room as u8) {
-                return Some(batch);
-            }
-        }
-        None
     }
 }

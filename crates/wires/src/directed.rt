@@ -1,11 +1,9 @@
-ghost use Rattle.std.specs.Prelude.{◌≡◌, map, Some, None};
+ghost use Rattle.std.specs.Prelude.{◌≡◌, Some, None};
 ghost use Rattle.wires.specs.Orders.{head, wish_first};
-ghost use Rattle.wires.specs.Parts.{numbers_of, posted_of};
 ghost use Rattle.wires.specs.Laws.{wish_first_orders};
 
-use crate::batch_list::BatchList;
+use crate::left::Left;
 use crate::policy::Policy;
-use crate::post::Post;
 
 // Takes a wish; a later wish replaces it. The next batch that is numbered or told is the wish where it is allowed, else the
 // lowest batch allowed, and uses the wish up.
@@ -16,17 +14,13 @@ pub struct Directed {
 
 impl Directed {
     // The wish where it is left, else the oldest that is.
-    fn choose(&self, posts: &[Post], list: &BatchList) -> Option<usize>
-        ensures { result ≡ head (wish_first self.now.wish (map posted_of posts.now) (numbers_of list.now)) }
+    fn choose(&self, left: &Left) -> Option<usize>
+        ensures { result ≡ head (wish_first self.now.wish left.now.posts left.now.list) }
     {
-        let Some(wish) = self.wish else {
-            return list.oldest_left(posts);
-        };
-        let wish = wish as usize;
-        if list.leaves(posts, wish) {
-            return Some(wish);
+        match self.wish {
+            Some(wish) if left.has(wish as usize) => Some(wish as usize),
+            _ => left.oldest(),
         }
-        list.oldest_left(posts)
     }
 }
 
@@ -51,12 +45,12 @@ impl Policy for Directed {
         Directed { wish: None }
     }
 
-    fn choose_number(&self, posts: &[Post], definitive: &BatchList) -> Option<usize> {
-        self.choose(posts, definitive)
+    fn choose_number(&self, left: &Left) -> Option<usize> {
+        self.choose(left)
     }
 
-    fn choose_telling(&self, posts: &[Post], tentative: &BatchList, room: u8) -> Option<usize> {
-        self.choose(posts, tentative)
+    fn choose_telling(&self, left: &Left, room: u8) -> Option<usize> {
+        self.choose(left)
     }
 
     fn note_numbered(&mut self, room: u8) {

@@ -3,7 +3,9 @@ ghost use Rattle.wires.specs.Meaning.{meaning_of};
 ghost use Rattle.wires.specs.Orders.{head, poster};
 
 use crate::ledger::Ledger;
+use crate::left::Left;
 use crate::policy::Policy;
+use crate::room_number::RoomNumber;
 
 impl Ledger {
     // The room that posted a batch.
@@ -11,27 +13,30 @@ impl Ledger {
         requires { batch < length (meaning_of self.now).posts }
         ensures { result ≡ poster (meaning_of self.now).posts batch }
     {
-        self.posts[batch as usize].room
+        self.posts[batch as usize].room.number
     }
 
     // The batch that a policy would number next.
     pub(crate) fn choose_number<P: Policy>(&self, policy: &P) -> Option<u16>
         ensures { result ≡ head (P.Policy.numbers policy.now (meaning_of self.now).posts (meaning_of self.now).definitive) }
     {
-        match policy.choose_number(self.posts.as_slice(), &self.definitive) {
-            Some(batch) => Some(batch as u16),
-            None => None,
-        }
+        let left = Left {
+            posts: &self.posts,
+            list: &self.definitive,
+        };
+        let batch = policy.choose_number(&left)?;
+        Some(batch as u16)
     }
 
     // The batch that a policy would tell a room next.
-    pub(crate) fn choose_telling<P: Policy>(&self, policy: &P, room: u8) -> Option<u16>
-        requires { room < 8 }
-        ensures { result ≡ head (P.Policy.tells policy.now (meaning_of self.now).posts ((meaning_of self.now).tentative room) room) }
+    pub(crate) fn choose_telling<P: Policy>(&self, policy: &P, room: RoomNumber) -> Option<u16>
+        ensures { result ≡ head (P.Policy.tells policy.now (meaning_of self.now).posts ((meaning_of self.now).tentative room.number) room.number) }
     {
-        match policy.choose_telling(self.posts.as_slice(), &self.pages[room as usize].told, room) {
-            Some(batch) => Some(batch as u16),
-            None => None,
-        }
+        let left = Left {
+            posts: &self.posts,
+            list: &self.page(room).told,
+        };
+        let batch = policy.choose_telling(&left, room.number)?;
+        Some(batch as u16)
     }
 }

@@ -12,12 +12,17 @@ pub mod kind;
 pub mod ledger;
 pub mod ledger_calls;
 pub mod ledger_choices;
+pub mod left;
+pub mod left_calls;
+mod limits;
 pub mod page;
 pub mod page_calls;
 pub mod policy;
 pub mod policy_wire;
 pub mod policy_wire_calls;
 pub mod post;
+mod room_number;
+mod room_number_calls;
 pub mod sequenced;
 pub mod turn;
 

@@ -1,6 +1,7 @@
 ghost use Rattle.std.specs.Prelude.{◌≤◌, vec_capacity};
 
 use crate::batch_list::BatchList;
+use crate::limits::ROOMS;
 use wire::announcement::Announcement;
 
 // A ledger's page for one room: its tentative list, its announcements, and how many definitive entries and how many
@@ -10,6 +11,6 @@ pub struct Page {
     pub(crate) told: BatchList,
     pub(crate) announced: Vec<Announcement>,
     pub(crate) taken: usize,
-    pub(crate) received: [usize; 8],
+    pub(crate) received: [usize; ROOMS],
     ghost place: { 256 ≤ vec_capacity announced },
 }

@@ -3,7 +3,9 @@ ghost use Rattle.wires.specs.Parts.{kept_of};
 ghost use Rattle.wires.specs.Kept.{blank, also_told, also_announced, also_taken, also_received};
 
 use crate::batch_list::BatchList;
+use crate::limits::{BATCHES, ROOMS};
 use crate::page::Page;
+use crate::room_number::RoomNumber;
 use std::alloc::{AllocError, Global};
 use wire::announcement::Announcement;
 
@@ -13,12 +15,12 @@ impl Page {
         ensures { IfOk result (λ p. kept_of p ≡ blank) }
     {
         let told = BatchList::open(heap)?;
-        let announced = Vec::with_capacity(heap, 256)?;
+        let announced = Vec::with_capacity(heap, BATCHES)?;
         Ok(Page {
             told,
             announced,
             taken: 0,
-            received: [0; 8],
+            received: [0; ROOMS],
         })
     }
 
@@ -48,11 +50,10 @@ impl Page {
     }
 
     // Counts one announcement of a sender more as taken.
-    pub(crate) fn receive(&mut self, sender: u8)
-        requires room { sender < 8 }
-        requires few { (kept_of self.old).received sender < 256 }
-        ensures { kept_of self.new ≡ also_received (kept_of self.old) sender }
+    pub(crate) fn receive(&mut self, sender: RoomNumber)
+        requires { (kept_of self.old).received sender.number < 256 }
+        ensures { kept_of self.new ≡ also_received (kept_of self.old) sender.number }
     {
-        self.received[sender as usize] += 1;
+        self.received[sender.number as usize] += 1;
     }
 }

@@ -1,10 +1,8 @@
-ghost use Rattle.std.specs.Prelude.{◌≡◌, ℕ, List, map};
+ghost use Rattle.std.specs.Prelude.{◌≡◌, ℕ, List};
 ghost use Rattle.wire.specs.Wire.{Posted};
 ghost use Rattle.wires.specs.Orders.{head, Orders};
-ghost use Rattle.wires.specs.Parts.{numbers_of, posted_of};
 
-use crate::batch_list::BatchList;
-use crate::post::Post;
+use crate::left::Left;
 
 // What chooses for a wire. A policy says by an order of preference which of the batches that are left it would rather have:
 // the first of the order is chosen.
@@ -31,13 +29,13 @@ pub trait Policy: Sized {
     fn start() -> Self
         ensures { result ≡ fresh };
 
-    // The batch to be numbered next.
-    fn choose_number(&self, posts: &[Post], definitive: &BatchList) -> Option<usize>
-        ensures { result ≡ head (numbers self.now (map posted_of posts.now) (numbers_of definitive.now)) };
+    // The batch to be numbered next, of those that the definitive list lacks.
+    fn choose_number(&self, left: &Left) -> Option<usize>
+        ensures { result ≡ head (numbers self.now left.now.posts left.now.list) };
 
-    // The batch to be told to a room next.
-    fn choose_telling(&self, posts: &[Post], tentative: &BatchList, room: u8) -> Option<usize>
-        ensures { result ≡ head (tells self.now (map posted_of posts.now) (numbers_of tentative.now) room) };
+    // The batch to be told to a room next, of those that its tentative list lacks.
+    fn choose_telling(&self, left: &Left, room: u8) -> Option<usize>
+        ensures { result ≡ head (tells self.now left.now.posts left.now.list room) };
 
     // A batch that a room posted was numbered.
     fn note_numbered(&mut self, room: u8)

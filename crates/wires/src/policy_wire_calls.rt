@@ -11,6 +11,7 @@ ghost use Rattle.wires.specs.Laws.{sound_of};
 use crate::ledger::Ledger;
 use crate::policy::Policy;
 use crate::policy_wire::PolicyWire;
+use crate::room_number::RoomNumber;
 use batches::sealed::SealedBatch;
 use refusals::Refusal;
 use std::alloc::{AllocError, Global};
@@ -25,9 +26,8 @@ impl<P: Policy> Wire for PolicyWire<P> {
         ensures after { IfOk result (λ w. meaning_of w.ledger ≡ new_wire) }
         ensures policy { IfOk result (λ w. w.policy ≡ P.Policy.fresh) }
     {
-        let ledger = Ledger::open(heap)?;
         Ok(PolicyWire {
-            ledger,
+            ledger: Ledger::open(heap)?,
             policy: P::start(),
         })
     }
@@ -45,15 +45,14 @@ impl<P: Policy> Wire for PolicyWire<P> {
         ensures same { OnErr result (self.new ≡ self.old) }
         ensures policy { IfOk result (λ b. ByOrder (P.Policy.numbers self.old.policy (meaning_of self.old.ledger).posts (meaning_of self.old.ledger).definitive) b self.new.policy (P.Policy.served self.old.policy (poster (meaning_of self.old.ledger).posts b))) }
     {
-        match self.ledger.choose_number(&self.policy) {
-            Some(batch) => {
-                let room = self.ledger.poster(batch);
-                self.ledger.number(batch);
-                self.policy.note_numbered(room);
-                Ok(batch)
-            }
-            None => Err(Refusal::NothingWaits),
-        }
+        let batch = self
+            .ledger
+            .choose_number(&self.policy)
+            .ok_or(Refusal::NothingWaits)?;
+        let room = self.ledger.poster(batch);
+        self.ledger.number(batch);
+        self.policy.note_numbered(room);
+        Ok(batch)
     }
 
     fn tell_tentatively(&mut self, room: u8) -> Result<u16, Refusal>
@@ -61,17 +60,14 @@ impl<P: Policy> Wire for PolicyWire<P> {
         ensures same { OnErr result (self.new ≡ self.old) }
         ensures policy { IfOk result (λ b. ByOrder (P.Policy.tells self.old.policy (meaning_of self.old.ledger).posts ((meaning_of self.old.ledger).tentative room) room) b self.new.policy (P.Policy.heard self.old.policy)) }
     {
-        if room > 7 {
-            return Err(Refusal::OutOfRange);
-        }
-        match self.ledger.choose_telling(&self.policy, room) {
-            Some(batch) => {
-                self.ledger.tell(room, batch);
-                self.policy.note_told();
-                Ok(batch)
-            }
-            None => Err(Refusal::NothingWaits),
-        }
+        let room = RoomNumber::try_from(room)?;
+        let batch = self
+            .ledger
+            .choose_telling(&self.policy, room)
+            .ok_or(Refusal::NothingWaits)?;
+        self.ledger.tell(room, batch);
+        self.policy.note_told();
+        Ok(batch)
     }
 
     fn tell_definitively(&mut self, room: u8) -> Result<u16, Refusal>

@@ -1,9 +1,8 @@
 ghost use Rattle.wires.specs.Orders.{left, own_first};
 ghost use Rattle.wires.specs.Laws.{left_orders, own_first_orders};
 
-use crate::batch_list::BatchList;
+use crate::left::Left;
 use crate::policy::Policy;
-use crate::post::Post;
 
 // Numbers in the order of posting; tells a room its own posts first, then the others, oldest first. Takes no wishes.
 #[derive(Clone, Copy)]
@@ -30,14 +29,15 @@ impl Policy for Sequenced {
         Sequenced
     }
 
-    fn choose_number(&self, posts: &[Post], definitive: &BatchList) -> Option<usize> {
-        definitive.oldest_left(posts)
+    fn choose_number(&self, left: &Left) -> Option<usize> {
+        left.oldest()
     }
 
-    fn choose_telling(&self, posts: &[Post], tentative: &BatchList, room: u8) -> Option<usize> {
-        match tentative.oldest_left_of(posts, room) {
+    fn choose_telling(&self, left: &Left, room: u8) -> Option<usize> {
+        // A `match`, since the closure of an `or_else` that captures `left` proves only with a clause of its own.
+        match left.oldest_of(room) {
             Some(own) => Some(own),
-            None => tentative.oldest_left(posts),
+            None => left.oldest(),
         }
     }
 

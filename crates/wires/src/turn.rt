@@ -2,9 +2,8 @@ ghost use Rattle.std.specs.Prelude.{◌+◌, ◌%◌};
 ghost use Rattle.wires.specs.Orders.{left_round};
 ghost use Rattle.wires.specs.Laws.{left_round_orders};
 
-use crate::batch_list::BatchList;
+use crate::left::Left;
 use crate::policy::Policy;
-use crate::post::Post;
 
 // Goes round the rooms from the one whose turn it is to the first with an unnumbered post, and numbers its oldest; then it is
 // the turn of the room after that. Tells a room its own oldest untold post, else that of the next room round with one.
@@ -35,16 +34,16 @@ impl Policy for Turn {
         Turn { turn: 0 }
     }
 
-    fn choose_number(&self, posts: &[Post], definitive: &BatchList) -> Option<usize> {
-        definitive.oldest_left_round(posts, self.turn)
+    fn choose_number(&self, left: &Left) -> Option<usize> {
+        left.oldest_round(self.turn)
     }
 
-    fn choose_telling(&self, posts: &[Post], tentative: &BatchList, room: u8) -> Option<usize> {
-        tentative.oldest_left_round(posts, room)
+    fn choose_telling(&self, left: &Left, room: u8) -> Option<usize> {
+        left.oldest_round(room)
     }
 
     fn note_numbered(&mut self, room: u8) {
-        self.turn = ((room as u16 + 1) % 8) as u8;
+        self.turn = room.wrapping_add(1) % 8;
     }
 
     fn note_told(&mut self) {}

@@ -19,7 +19,6 @@ invariant_of-self c =
     record {
       place = l.place;
       eight = l.eight;
-      table = l.table;
       sound = sound;
       marked = l.marked;
       counted = l.counted;

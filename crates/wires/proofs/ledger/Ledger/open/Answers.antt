@@ -10,14 +10,12 @@ invariant_of-result c =
     let posts = c.in_ok-posts.ensures in
     let pages = c.in_ok-pages.ensures in
     let after = open_after (vec_items c.in_ok-posts.posts) (numbers_of c.in_ok-definitive.definitive) (vec_items c.in_ok-pages.pages) posts.items c.in_ok-definitive.ensures pages.1 in
-    let marks = c.in_ok-announced.ensures.items_if_clones_equal (λ y e. e) in
     record {
       place = search rules;
       eight = search rules;
-      table = search rules;
       sound = ∣ subst Sound (sym after) new-sound ∣₁;
-      marked = marked-none (vec_items c.in_ok-pages.pages) (vec_items c.in_ok-announced.announced) pages.1 marks;
-      counted = counted_none (vec_items c.in_ok-pages.pages) (vec_items c.in_ok-announced.announced) pages.1;
+      marked = marked-none (vec_items c.in_ok-posts.posts) (vec_items c.in_ok-pages.pages) posts.items pages.1;
+      counted = counted_none (vec_items c.in_ok-posts.posts) (vec_items c.in_ok-pages.pages) pages.1;
     }
 
 pub returns : goal.returns

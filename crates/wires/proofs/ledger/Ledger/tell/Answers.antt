@@ -10,31 +10,31 @@ pub tell-requires : goal.tell-requires
 tell-requires c =
     let l = c.args.self.now in
     let p = c.index_mut.result.now in
-    let read = read_is l c.args.room p p c.requires.room c.index_mut.ensures.value in
+    let read = read_is l c.args.room.number p p c.args.room.small c.index_mut.ensures.value in
     record {
-      small = chosen-small l ((meaning_of l).tentative c.args.room) c.args.batch c.requires.chosen;
-      few = omega (arith, tell-place l c.args.room c.args.batch c.requires.chosen, ap (λ (k : Kept). length k.told) read);
+      small = chosen-small l ((meaning_of l).tentative c.args.room.number) c.args.batch c.requires;
+      few = omega (arith, tell-place l c.args.room.number c.args.batch c.requires, ap (λ (k : Kept). length k.told) read);
     }
 
 pub invariant_of-self : goal.invariant_of-self
 invariant_of-self c =
     let l = c.args.self.now in
     let w = meaning_of l in
-    let room = c.args.room in
+    let room = c.args.room.number in
+    let small = c.args.room.small in
     let b = c.args.batch in
     let p = c.index_mut.result.now in
     let q = c.tell.new.self in
     let read = c.index_mut.ensures.value in
-    let after = told-after l room p q c.requires.room read b c.tell.ensures in
-    let sound = still-sound l _ (with_heard w room b) after (λ s. heard-sound w s room b c.requires.chosen) in
+    let after = told-after l room p q small read b c.tell.ensures in
+    let sound = still-sound l _ (with_heard w room b) after (λ s. heard-sound w s room b c.requires) in
     record {
       place = l.place;
       eight = l.eight;
-      table = l.table;
       sound = sound;
-      marked = marked-after l room p q c.requires.room read (λ k. also_told k b) c.tell.ensures (λ k. refl);
-      counted = counted-after l room p q c.requires.room read (λ k. also_told k b) c.tell.ensures (λ k. refl);
+      marked = marked-after l room p q small read (λ k. also_told k b) c.tell.ensures (λ k. refl);
+      counted = counted-after l room p q small read (λ k. also_told k b) c.tell.ensures (λ k. refl);
     }
 
 pub returns : goal.returns
-returns c = told-after c.args.self.now c.args.room c.index_mut.result.now c.tell.new.self c.requires.room c.index_mut.ensures.value c.args.batch c.tell.ensures
+returns c = told-after c.args.self.now c.args.room.number c.index_mut.result.now c.tell.new.self c.args.room.small c.index_mut.ensures.value c.args.batch c.tell.ensures
