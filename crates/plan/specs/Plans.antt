@@ -9,4 +9,4 @@ plan_of p = record { rooms = p.rooms; lines = p.lines.items }
 
 -- the plan that is written so far
 abbrev pub draft_of : PlanDraft → Plan
-draft_of d = plan_of d.plan
+draft_of d = plan_of d
