@@ -1,17 +1,17 @@
 // A plan that is being written.
-use crate::sealed::SealedPlan;
+use crate::masters::Masters;
 use std::marker::Model;
 
-// A plan being written: it holds the plan that sealing gives, and clauses see it as that plan.
+// A plan being written. Clauses see it as the masters that it gives so far.
 #[derive(Drop)]
 pub struct PlanDraft {
-    pub(crate) plan: SealedPlan,
+    pub(crate) masters: Masters,
 }
 
 impl Model for PlanDraft {
-    ghost use Rattle.plan.specs.declared.sealed.SealedPlan.{SealedPlan};
+    ghost use Rattle.plan.specs.declared.masters.Masters.{Masters};
 
-    ghost Value = { SealedPlan };
+    ghost Value = { Masters };
 
-    ghost view = { λ d. d.plan };
+    ghost view = { λ d. d.masters };
 }

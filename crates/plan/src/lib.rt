@@ -5,6 +5,8 @@
 pub mod draft;
 pub mod laws;
 pub mod line;
+mod lookup;
+mod masters;
 pub mod sealed;
 mod sealing;
 mod writing;

@@ -6,7 +6,7 @@ ghost use Rattle.plan.specs.Plans.{draft_of};
 
 use crate::draft::PlanDraft;
 use crate::line::PlanLine;
-use crate::sealed::SealedPlan;
+use crate::masters::Masters;
 use arrayvec::ArrayVec;
 use refusals::Refusal;
 
@@ -21,7 +21,7 @@ impl PlanDraft {
         }
         let lines = ArrayVec::new();
         Ok(PlanDraft {
-            plan: SealedPlan { rooms, lines },
+            masters: Masters { rooms, lines },
         })
     }
 
@@ -32,7 +32,7 @@ impl PlanDraft {
         ensures cases { MatchResult result (λ _. draft_of self.new ≡ with_line (draft_of self.old) set master) (λ _. self.new ≡ self.old) }
     {
         self.check_line(set, master)?;
-        self.plan.lines.push(PlanLine { set, master });
+        self.masters.lines.push(PlanLine { set, master });
         Ok(())
     }
 
@@ -40,16 +40,16 @@ impl PlanDraft {
     fn check_line(&self, set: u32, master: u8) -> Result<(), Refusal>
         ensures refused { result_err result ≡ line_cause (draft_of self.now) set master }
     {
-        if master >= self.plan.rooms {
+        if master >= self.masters.rooms {
             return Err(Refusal::OutOfRange);
         }
         if !sets::is_sized(set) {
             return Err(Refusal::SetSize);
         }
-        if self.plan.master(set).is_some() {
+        if self.masters.of(set).is_some() {
             return Err(Refusal::SetPlanned);
         }
-        if self.plan.lines.is_full() {
+        if self.masters.lines.is_full() {
             return Err(Refusal::PlanFull);
         }
         Ok(())
