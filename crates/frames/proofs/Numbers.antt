@@ -2,7 +2,7 @@
 use Rattle.std.proofs.Common.{◌≡◌, ℕ, suc, ◌+◌, ◌-◌, ◌*◌, ◌^◌, ◌<◌, ◌≤◌, Ok, ap, ◌∙◌, add_assoc, add-one, pow-suc, arith}
 use native.Mathlib.Nat.{pow-le-pow_right}
 use Rattle.frames.specs.declared.digits.Fields.{Fields}
-use Rattle.frames.specs.Digits.{then, digit_at, more_at, number_at}
+use Rattle.frames.specs.Digits.{digit_at, more_at, number_at}
 
 -- so many digits of a number are read, from where the reader stood, and give this
 pub record Read (from now : Fields) (digits count number : ℕ) : Type 0 where
@@ -17,22 +17,16 @@ read_none from digits =
     let all : digits - 0 ≡ digits = omega arith in
     record { stands = rw none; value = rw all; bound = omega arith }
 
--- what follows is the next digit, and then the others
-value_more : (from now : Fields) (digits count number : ℕ) → count < digits → Read from now digits count number
-    → then (digit_at now.line.now now.at) (λ d. more_at now.line.now (now.at + 1) (digits - (count + 1)) (number * 16 + d))
-    ≡ number_at from.line.now from.at digits
-value_more from now digits count number h r =
-    let e : digits - count ≡ suc (digits - (count + 1)) = omega arith in
-    rw e at r.value
-
 pub read_more : (from now next : Fields) (digits count number d : ℕ) → count < digits → Read from now digits count number
     → Ok d ≡ digit_at now.line.now now.at → d < 16 → next ≡ record now { at = now.at + 1 }
     → Read from next digits (count + 1) (number * 16 + d)
 read_more from now next digits count number d h r e small after =
+    let one : digits - count ≡ suc (digits - (count + 1)) = omega arith in
+    let value = rw one at r.value in
     rw after
     (record {
       stands = ap (λ (f : Fields). record f { at = f.at + 1 }) r.stands ∙ ap (λ n. record from { at = n }) (add_assoc from.at count 1);
-      value = rw (← e) at (value_more from now digits count number h r);
+      value = rw (← e) at value;
       bound = rw add-one (omega (arith, pow-suc 16 count, r.bound));
     })
 
