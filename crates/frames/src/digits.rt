@@ -36,6 +36,7 @@ impl<'a> Fields<'a> {
     }
 
     // The number that the next digits write, so many of them, highest first.
+    #[tactic(auto, using(crate::proofs::Numbers::read_none, crate::proofs::Numbers::number_small))]
     fn number(&mut self, digits: u32) -> Result<u32, TextFault>
         requires { digits ≤ 8 }
         ensures value { result ≡ number_at self.old.line.now self.old.at digits }
