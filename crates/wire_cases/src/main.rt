@@ -4,8 +4,7 @@
 
 use batches::{BatchDraft, SealedBatch, Step};
 use refusals::Refusal;
-use std::alloc::{AllocError, Global};
-use std::io;
+use std::{fmt, io};
 use wire::Wire;
 use wires::{AnyWire, WireKind};
 
@@ -24,13 +23,15 @@ fn post_three(wire: &mut AnyWire) -> Result<(), Refusal> {
     Ok(())
 }
 
-// An answer, as it is printed.
-fn shown(heap: Global, answer: Result<u16, Refusal>) -> Result<String, AllocError> {
-    match answer {
-        Ok(batch) => format!(in heap; " {batch}"),
-        Err(cause) => {
-            let number = cause.number();
-            format!(in heap; " refused with {number}")
+// A wire's answer: the batch that it chose, or why it refused.
+#[derive(Drop)]
+struct Answer(Result<u16, Refusal>);
+
+impl fmt::Display for Answer {
+    fn fmt<W: fmt::Write>(&self, f: &mut fmt::Formatter<W>) -> fmt::Result {
+        match self.0 {
+            Ok(batch) => write!(f, " {batch}"),
+            Err(cause) => write!(f, " refused with {}", u8::from(cause)),
         }
     }
 }
@@ -39,7 +40,7 @@ fn shown(heap: Global, answer: Result<u16, Refusal>) -> Result<String, AllocErro
 fn number_all(rt: &HostRuntime, wire: &mut AnyWire) -> io::Result<()> {
     print!(rt; "  numbers:")?;
     for _ in 0..4 {
-        print!(rt; "{}", shown(rt.alloc(), wire.number())?)?;
+        print!(rt; "{}", Answer(wire.number()))?;
     }
     println!(rt; "")
 }
@@ -48,7 +49,7 @@ fn number_all(rt: &HostRuntime, wire: &mut AnyWire) -> io::Result<()> {
 fn tell_all(rt: &HostRuntime, wire: &mut AnyWire, room: u8) -> io::Result<()> {
     print!(rt; "  tells room {room}:")?;
     for _ in 0..4 {
-        print!(rt; "{}", shown(rt.alloc(), wire.tell_tentatively(room))?)?;
+        print!(rt; "{}", Answer(wire.tell_tentatively(room)))?;
     }
     println!(rt; "")
 }
@@ -56,8 +57,7 @@ fn tell_all(rt: &HostRuntime, wire: &mut AnyWire, room: u8) -> io::Result<()> {
 // A new wire of a kind.
 fn open(rt: &HostRuntime, kind: WireKind, name: &str) -> io::Result<AnyWire> {
     println!(rt; "{name}")?;
-    let wire = AnyWire::open_kind(rt.alloc(), kind)?;
-    Ok(wire)
+    Ok(AnyWire::open_kind(rt.alloc(), kind)?)
 }
 
 // Posts, then numbers all and tells rooms 0, 1 and 2.
@@ -100,6 +100,6 @@ fn main(rt: HostRuntime) -> io::Result<()> {
         "directed, wishes 1, and a refused numbering keeps it",
     )?;
     wire.wish(1);
-    println!(rt; "  number:{}", shown(rt.alloc(), wire.number())?)?;
+    println!(rt; "  number:{}", Answer(wire.number()))?;
     run(&rt, &mut wire)
 }

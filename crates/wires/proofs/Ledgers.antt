@@ -1,12 +1,10 @@
 -- What a ledger knows of itself.
-use Rattle.std.specs.Prelude.{◌≡◌, ℕ, ◌+◌, ◌<◌, ◌≤◌, Bool, true, false, ◌||◌, List, [], ◌∷◌, ◌++◌, map, length, get_or, Some, vec_items, vec_len, ◌==◌, slice_index_or, slice_set, refl}
+use Rattle.std.specs.Prelude.{◌≡◌, ℕ, ◌+◌, ◌<◌, ◌≤◌, Bool, true, false, ◌||◌, List, [], ◌∷◌, ◌++◌, map, length, get_or, vec_items, vec_len, ◌==◌, slice_index_or, slice_set, refl}
 use Rattle.std.proofs.Common.{sym, ap, subst, ◌∙◌, arith, length-set}
 use Rattle.std.proofs.Math.Logic.{∥∥₁_elim, ∥∥₁_map}
 use denote.Struct.Props.{props}
-use Rattle.std.specs.List.{slice_get}
-use Rattle.std.proofs.lemmas.List.{get_or-map, map_push, map-set, length-map, length_push}
+use Rattle.std.proofs.lemmas.List.{map_push, map-set, length-map, length_push}
 use Rattle.std.proofs.Math.Seq.{map-set_same}
-use Rattle.std.proofs.lemmas.Option.{slice_get-get_or}
 use Rattle.batches.specs.Sealed.{batch_of}
 use Rattle.wire.specs.Wire.{Wire, Posted, new_wire}
 use Rattle.wire.specs.declared.announcement.Announcement.{Announcement}
@@ -30,13 +28,6 @@ module _ (l : Ledger) where
 
   pub posts-few : vec_len l.posts ≤ 256
   posts-few = let e = posts-len in ∥∥₁_elim l.sound (hlevel props) (λ s. omega (arith, s.few))
-
-  -- the post that was read
-  pub post_read : (number : ℕ) (p : Post) → number < vec_len l.posts → p ≡ slice_index_or (vec_items l.posts) number p → slice_get (meaning_of l).posts number ≡ Some (posted_of p)
-  post_read number p h e =
-      let len = posts-len in
-      slice_get-get_or (meaning_of l).posts number (posted_of p) (omega arith)
-      ∙ ap Some (get_or-map posted_of (vec_items l.posts) number p (posted_of p) (omega (arith, l.posts.ok.0)) ∙ ap posted_of (sym e))
 
   -- a mark for each post
   abbrev marks : List Bool

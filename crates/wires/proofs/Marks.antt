@@ -5,11 +5,12 @@ use Rattle.std.proofs.Math.Path.{refl, ap, fun_ext}
 use Rattle.std.proofs.Common.{sym, ◌∙◌, get_or-set_same, get_or-set_other}
 use Rattle.std.proofs.Math.Logic.{inl, inr}
 use native.Mathlib.Omega.{arith}
-use Rattle.std.proofs.lemmas.Bool.{cases_eq, cases_Bool, eqb-true, both_ways}
+use Rattle.std.proofs.lemmas.Bool.{cases_eq, cases_Bool, lt-ltb, eqb-true, both_ways}
 use Rattle.lists.specs.Words.{any, member, rising, updated}
 use Rattle.wire.specs.declared.announcement.Announcement.{Announcement}
 use Rattle.wires.specs.Kept.{announced_in, trues}
-use Rattle.wires.proofs.Words.{member-push, member-rising, any_push}
+use Rattle.lists.proofs.Members.{member-push, any_append}
+use Rattle.wires.proofs.Words.{member-below}
 
 pub no_marks : (n k : ℕ) → slice_index_or (replicate n false) k false ≡ false
 no_marks zero k = refl
@@ -50,7 +51,7 @@ trues-set (m ∷ ms) (suc b) h e = omega (arith, trues-set ms b (omega arith) e)
 
 -- the marks of a list with one more number
 pub marks-push : (marks : List Bool) (xs : List ℕ) (b : ℕ) → b < length marks → ((k : ℕ) → slice_index_or marks k false ≡ member k xs) → (k : ℕ) → slice_index_or (slice_set marks b true) k false ≡ member k (xs ++ b ∷ [])
-marks-push marks xs b within marked k = mark_set marks b within k ∙ ap (λ t. t || k == b) (marked k) ∙ sym (member-push k b xs)
+marks-push marks xs b within marked k = mark_set marks b within k ∙ ap (λ t. t || k == b) (marked k) ∙ sym (member-push k xs b)
 
 -- one more value passes the test, at one place
 any_one : (f : ℕ → Bool) (at : ℕ) (t : Bool) (xs : List ℕ) → any (λ k. f k || (k == at && t)) xs ≡ (any f xs || (member at xs && t))
@@ -72,11 +73,11 @@ module _ (A : ℕ → List Announcement) (sender : ℕ) (a : Announcement) (b : 
   unfolding said
   one_more k =
       elim (cases_Bool (k == sender)) [
-        | inl t ↦ let push = any_push (λ (x : Announcement). nat_eq x.batch b) (A sender) a in rw (t, eqb-true k sender t) (push ∙ same (said (A sender)) a.batch b)
+        | inl t ↦ let push = any_append (λ (x : Announcement). nat_eq x.batch b) (A sender) (a ∷ []) in rw (t, eqb-true k sender t) (push ∙ same (said (A sender)) a.batch b)
         | inr f ↦ rw f (none (said (A k)))
       ]
     where
-      same : (t : Bool) (x y : ℕ) → (t || x == y) ≡ (t || (true && y == x))
+      same : (t : Bool) (x y : ℕ) → (t || (x == y || false)) ≡ (t || (true && y == x))
       same t x y = grind arith
 
       none : (t : Bool) → t ≡ (t || false)
@@ -88,4 +89,4 @@ module _ (A : ℕ → List Announcement) (sender : ℕ) (a : Announcement) (b : 
   announced-push small =
       ap (λ (f : ℕ → Bool). any f (rising 0 8)) (fun_ext one_more)
       ∙ any_one (λ k. said (A k)) sender (b == a.batch) (rising 0 8)
-      ∙ ap (λ t. any (λ k. said (A k)) (rising 0 8) || (t && b == a.batch)) (member-rising sender 0 8 (omega arith) (omega arith))
+      ∙ ap (λ t. any (λ k. said (A k)) (rising 0 8) || (t && b == a.batch)) (member-below sender 8 ∙ lt-ltb sender 8 small)

@@ -3,14 +3,15 @@
 use Rattle.std.specs.Prelude.{◌≡◌, ℕ, Bool, true, false, not, ◌&&◌, eqb, List, [], ◌∷◌, ◌++◌, map, length, Some, None, ◌==◌, nat_lt, refl}
 use Rattle.std.proofs.Common.{sym, ap, ◌∙◌, inl, inr, arith}
 use Rattle.std.proofs.lemmas.List.{length-map}
-use Rattle.std.proofs.lemmas.Bool.{cases_Bool, cases_eq, cases_lt, lt-ltb, le-ltb, and_parts, eq-eqb, eqb-true, not-true, and_from, and_left, and_right, or_left, or_right, or_parts, both_ways}
+use Rattle.std.proofs.lemmas.Bool.{cases_Bool, cases_eq, lt-ltb, ltb-true, and_parts, eq-eqb, eqb-true, not-true, and_from, and_left, and_right, or_left, or_right, or_parts, both_ways}
 use Rattle.lists.specs.Words.{all, member, keep, rising}
 use Rattle.wire.specs.Wire.{Wire}
 use Rattle.wire.specs.Calls.{Chosen, all_there}
 use Rattle.wires.specs.Orders.{head, left, rooms_right, Orders}
 use Rattle.wires.specs.Parts.{posted_of}
 use Rattle.wires.specs.declared.post.Post.{Post}
-use Rattle.wires.proofs.Words.{member-keep, member-rising, rising-below, rising_past}
+use Rattle.lists.proofs.Keeps.{member-keep}
+use Rattle.wires.proofs.Words.{member-below}
 use Rattle.wires.proofs.Rounds.{head-none, head_first}
 
 -- a batch is left if it is posted and not in the list
@@ -18,17 +19,11 @@ pub left-member : (posts : List Post) (list : List ℕ) (b : ℕ) → member b (
 left-member posts list b =
     member-keep (λ b. not (member b list)) b (rising 0 (length (map posted_of posts)))
     ∙ ap (λ n. not (member b list) && member b (rising 0 n)) (length-map posts posted_of)
-    ∙ ap (λ t. not (member b list) && t) (below (length posts))
+    ∙ ap (λ t. not (member b list) && t) (member-below b (length posts))
     ∙ turned (not (member b list)) (nat_lt b (length posts))
   where
     turned : (s t : Bool) → (s && t) ≡ (t && s)
     turned s t = grind arith
-
-    below : (n : ℕ) → member b (rising 0 n) ≡ nat_lt b n
-    below n = elim (cases_lt b n) [
-      | inl h ↦ member-rising b 0 n (omega arith) (omega arith) ∙ sym (lt-ltb b n h)
-      | inr h ↦ rising_past b 0 n (omega arith) ∙ sym (le-ltb b n h)
-    ]
 
 pub wish-found : (wish : ℕ) (xs : List ℕ) → member wish xs ≡ true → head (keep (eqb wish) xs ++ xs) ≡ Some wish
 wish-found wish xs e = head_first (keep (eqb wish) xs) xs wish (first xs e)
@@ -57,7 +52,7 @@ module _ (w : Wire) (list order : List ℕ) (right : rooms_right w.posts ≡ tru
   first-chosen b e =
       let there = sym (member-keep (λ b. not (member b list)) b (rising 0 (length w.posts))) ∙ sym (orders right b) ∙ head-member order b e in
       let parts = and_parts _ _ there in
-      record { posted = omega (arith, rising-below b 0 (length w.posts) parts.1); new = not-true (member b list) parts.0 }
+      record { posted = ltb-true b (length w.posts) (sym (member-below b (length w.posts)) ∙ parts.1); new = not-true (member b list) parts.0 }
 
   pub none_left : head order ≡ None → all_there w list ≡ true
   none_left e = every (rising 0 (length w.posts)) there
@@ -76,7 +71,7 @@ module _ (w : Wire) (list order : List ℕ) (right : rooms_right w.posts ≡ tru
 
 -- where a batch may be chosen not all are there
 pub chosen-left : (w : Wire) (list : List ℕ) (b : ℕ) → Chosen w list b → all_there w list ≡ false
-chosen-left w list b chosen = missing (rising 0 (length w.posts)) (member-rising b 0 (length w.posts) (omega arith) (omega (arith, chosen.posted)))
+chosen-left w list b chosen = missing (rising 0 (length w.posts)) (member-below b (length w.posts) ∙ lt-ltb b (length w.posts) chosen.posted)
   where
     missing : (xs : List ℕ) → member b xs ≡ true → all (λ b. member b list) xs ≡ false
     missing [] e = absurd (both_ways false refl e)

@@ -1,7 +1,7 @@
 -- A new wire is sound, and every call that is taken keeps a wire sound: each part of `Sound` speaks of one list or count,
 -- and a call changes one of them at one place.
 use Rattle.std.specs.Prelude.{◌≡◌, ℕ, ◌<◌, ◌≤◌, true, List, [], ◌∷◌, ◌++◌, length, nat_lt, refl}
-use Rattle.std.proofs.Common.{◌∙◌, arith}
+use Rattle.std.proofs.Common.{arith}
 use Rattle.std.proofs.lemmas.Bool.{lt-ltb}
 use Rattle.std.proofs.lemmas.List.{length_push}
 use Rattle.lists.specs.Words.{all, member, Distinct}
@@ -9,7 +9,9 @@ use Rattle.batches.specs.Batches.{Batch, batch_right}
 use Rattle.wire.specs.Wire.{Posted, Wire, new_wire}
 use Rattle.wire.specs.Calls.{Sound, Chosen, with_post, with_number, with_heard, with_taken, with_announced, with_received, amounts_small}
 use Rattle.wire.specs.declared.announcement.Announcement.{Announcement}
-use Rattle.wires.proofs.Words.{member-push, all_push, updated_each, distinct_push, left_and_there}
+use Rattle.lists.proofs.Members.{member-push, all_push}
+use Rattle.lists.proofs.Distincts.{distinct_push, distinct_short}
+use Rattle.wires.proofs.Words.{updated_each}
 
 pub new-sound : Sound new_wire
 new-sound = record {
@@ -32,8 +34,8 @@ module _ (w : Wire) (s : Sound w) where
       let more = length_push w.posts p in
       record {
         few = omega arith;
-        batches_right = all_push (λ (p : Posted). batch_right p.batch) w.posts p ∙ rw (s.batches_right, right);
-        posts_rooms = all_push (λ (p : Posted). nat_lt p.room 8) w.posts p ∙ rw (s.posts_rooms, lt-ltb room 8 small);
+        batches_right = all_push (λ (p : Posted). batch_right p.batch) w.posts p s.batches_right right;
+        posts_rooms = all_push (λ (p : Posted). nat_lt p.room 8) w.posts p s.posts_rooms (lt-ltb room 8 small);
         numbered_once = s.numbered_once;
         numbered_posted = λ b m. omega (arith, s.numbered_posted b m);
         heard_once = s.heard_once;
@@ -46,7 +48,7 @@ module _ (w : Wire) (s : Sound w) where
   -- a list of posted batches has none but posted ones after one more
   posted-push : (list : List ℕ) (b : ℕ) → Chosen w list b → ((x : ℕ) → member x list ≡ true → x < length w.posts) → (x : ℕ) → member x (list ++ b ∷ []) ≡ true → x < length w.posts
   posted-push list b chosen old x m =
-      let e = member-push x b list in
+      let e = member-push x list b in
       let new = chosen.posted in
       let there = old x in
       grind arith
@@ -107,7 +109,7 @@ module _ (w : Wire) (s : Sound w) where
         numbered_posted = s.numbered_posted;
         heard_once = s.heard_once;
         heard_posted = s.heard_posted;
-        announced_small = updated_each (λ _ list. all amounts_small list ≡ true) w.announced sender _ (all_push amounts_small (w.announced sender) a ∙ rw (s.announced_small sender, small)) s.announced_small;
+        announced_small = updated_each (λ _ list. all amounts_small list ≡ true) w.announced sender _ (all_push amounts_small (w.announced sender) a (s.announced_small sender) small) s.announced_small;
         taken_numbered = s.taken_numbered;
         received_announced = λ room. updated_each (λ k list. w.received room k ≤ length list) w.announced sender _ (omega (arith, s.received_announced room sender, length_push (w.announced sender) a)) (s.received_announced room);
       }
@@ -130,7 +132,7 @@ module _ (w : Wire) (s : Sound w) where
   -- where a batch may be chosen there is place for it
   chosen-fits : (list : List ℕ) (b : ℕ) → Distinct list → ((x : ℕ) → member x list ≡ true → x < length w.posts) → Chosen w list b → length list < 256
   chosen-fits list b once posted chosen =
-      let whole = left_and_there (length w.posts) (list ++ b ∷ []) (distinct_push list b once chosen.new) (posted-push list b chosen posted) in
+      let whole = distinct_short (length w.posts) (list ++ b ∷ []) (distinct_push list b once chosen.new) (posted-push list b chosen posted) in
       omega (arith, s.few, length_push list b)
 
   pub number_fits : (b : ℕ) → Chosen w w.definitive b → length w.definitive < 256
@@ -141,4 +143,4 @@ module _ (w : Wire) (s : Sound w) where
 
   -- no more batches are numbered than posted
   pub few-numbered : length w.definitive ≤ 256
-  few-numbered = let whole = left_and_there (length w.posts) w.definitive s.numbered_once s.numbered_posted in omega (arith, s.few)
+  few-numbered = let whole = distinct_short (length w.posts) w.definitive s.numbered_once s.numbered_posted in omega (arith, s.few)

@@ -27,7 +27,7 @@ use wire::announcement::Announcement;
 fn open_pages(heap: Global) -> Result<Vec<Page>, AllocError>
     ensures { IfOk result (λ pages. (vec_len pages ≡ 8) × (kept_in pages.items ≡ (λ _. blank))) }
 {
-    let mut pages = Vec::with_capacity(heap, ROOMS)?;
+    let mut pages = Vec::with_capacity(heap, ROOMS as usize)?;
     for _ in 0..ROOMS {
         pages.push_reserved(Page::open(heap)?);
     }

@@ -33,6 +33,6 @@ impl Left<'_> {
         ensures { result ≡ head (left_round self.now.posts self.now.list from) }
     {
         self.oldest()?;
-        (0..8).find_map(|step| self.oldest_of(from.wrapping_add(step) % 8))
+        (0..ROOMS).find_map(|step| self.oldest_of(from.wrapping_add(step) % ROOMS))
     }
 }

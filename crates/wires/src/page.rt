@@ -11,6 +11,6 @@ pub struct Page {
     pub(crate) told: BatchList,
     pub(crate) announced: Vec<Announcement>,
     pub(crate) taken: usize,
-    pub(crate) received: [usize; ROOMS],
+    pub(crate) received: [usize; ROOMS as usize],
     ghost place: { 256 ≤ vec_capacity announced },
 }

@@ -20,7 +20,7 @@ impl Page {
             told,
             announced,
             taken: 0,
-            received: [0; ROOMS],
+            received: [0; ROOMS as usize],
         })
     }
 

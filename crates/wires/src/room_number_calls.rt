@@ -10,7 +10,7 @@ impl TryFrom<u8> for RoomNumber {
     ghost try_from_gives = { RoomRead };
 
     fn try_from(number: u8) -> Result<RoomNumber, Refusal> {
-        if number as usize >= ROOMS {
+        if number >= ROOMS {
             return Err(Refusal::OutOfRange);
         }
         Ok(RoomNumber { number })

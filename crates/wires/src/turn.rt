@@ -3,6 +3,7 @@ ghost use Rattle.wires.specs.Orders.{left_round};
 ghost use Rattle.wires.specs.Laws.{left_round_orders};
 
 use crate::left::Left;
+use crate::limits::ROOMS;
 use crate::policy::Policy;
 
 // Goes round the rooms from the one whose turn it is to the first with an unnumbered post, and numbers its oldest; then it is
@@ -43,7 +44,7 @@ impl Policy for Turn {
     }
 
     fn note_numbered(&mut self, room: u8) {
-        self.turn = room.wrapping_add(1) % 8;
+        self.turn = room.wrapping_add(1) % ROOMS;
     }
 
     fn note_told(&mut self) {}
