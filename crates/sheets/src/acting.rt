@@ -44,7 +44,8 @@ impl Stage {
 }
 
 impl Sheet {
-    // Carries out a frame that is in turn, and gives the house's reply; none for a frame out of turn, which changes nothing.
+    // Carries out a frame in turn, and gives the reply or the cause of its refusal; none for a frame out of turn, which
+    // changes nothing.
     pub(crate) fn act(&mut self, frame: Frame) -> Option<Result<Reply, Refusal>>
         ensures { Turning (sheet_of self.old) (sheet_of self.new) frame result }
     {
