@@ -7,7 +7,7 @@ use crate::kind::FrameKind;
 // A frame, with its fields.
 #[derive(Clone, Copy, PartialEq, Eq, Debug)]
 pub enum Frame {
-    // a house of so many rooms, over a wire of this kind
+    // a house of so many rooms, over a wire of this kind: a number, since a line is a frame whether or not a kind has it
     Begin { rooms: u8, wire: u8 },
     // a line of the plan: this room is the master of this set
     PlanLine { room: u8, set: u32 },

@@ -11,6 +11,9 @@ use answers::{Layer, Reply, write_refused, write_taken};
 use frames::{Frame, FrameKind, read_frame};
 use refusals::Refusal;
 
+// What an answer has in the place of a kind, where the line is no frame.
+const NO_KIND: u8 = 0xFF;
+
 impl Sheet {
     // The turn and the house layer: what a frame is answered with, or its fault.
     fn answer_frame(&mut self, frame: Frame) -> Result<Reply, Fault>
@@ -51,6 +54,7 @@ impl Sheet {
         }
         let answered = self.answer_text(line);
         let written = write_answer(answered, answer);
+        // A `match`: a proof does not close through the closure of a `map_err` that reads the count of lines.
         match answered {
             Ok(_) => Ok(written),
             Err(fault) => Err(LineFault::Refused {
@@ -77,7 +81,7 @@ fn write_answer(answered: Result<(FrameKind, Reply), Fault>, buffer: &mut [u8]) 
 {
     let written = match answered {
         Ok((kind, reply)) => write_taken(kind.into(), reply, buffer),
-        Err(Fault::Text(_)) => write_refused(0xFF, Refusal::NotAFrame, Layer::Text, buffer),
+        Err(Fault::Text(_)) => write_refused(NO_KIND, Refusal::NotAFrame, Layer::Text, buffer),
         Err(Fault::Turn { kind }) => write_refused(kind.into(), Refusal::OutOfTurn, Layer::Turn, buffer),
         Err(Fault::House { kind, cause }) => write_refused(kind.into(), cause, Layer::House, buffer),
     };

@@ -10,7 +10,8 @@ use crate::limits::any_over_limit;
 use refusals::Refusal;
 use sets::{count_bases, is_sized, rising_bases};
 
-// Whether a book takes the amounts of a set's bases, and why not.
+// Whether a book takes the amounts of a set's bases, and why not. Set and amounts stand apart here and below: a caller has
+// the one from a batch and the others from an announcement, and would pair them for this call alone.
 pub fn check_set<B: Book>(book: &B, set: u32, amounts: &[u32; 8]) -> Result<(), Refusal>
     ensures { result ≡ answer (write_set_cause (B.Book.holds book.now) set amounts.now) tt }
 {

@@ -8,6 +8,7 @@ use crate::entry::Entry;
 pub mod calls;
 
 // A book that keeps the opening amounts and writes one entry after another into its buffer; the first `used` are written.
+// A rule of the project: a book lies over the buffer that is handed in, and so no `Vec` that grows.
 #[derive(Drop)]
 pub struct Journal {
     opening: [u32; 32],

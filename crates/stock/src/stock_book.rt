@@ -9,7 +9,7 @@ use crate::journal::Journal;
 use crate::table::Table;
 use refusals::Refusal;
 
-// A table or a journal.
+// A table or a journal. An enum that hands each call on, since the gate refuses a function that hands out a `dyn`.
 #[derive(Drop)]
 pub enum StockBook {
     Table(Table),

@@ -36,20 +36,12 @@ impl fmt::Display for Answer {
     }
 }
 
-// Four numberings.
-fn number_all(rt: &HostRuntime, wire: &mut AnyWire) -> io::Result<()> {
-    print!(rt; "  numbers:")?;
+// Four answers in a row.
+fn print_four<F: FnMut() -> Result<u16, Refusal>>(rt: &HostRuntime, mut ask: F) -> io::Result<()>
+    requires { F.IsAlwaysCallable ask }
+{
     for _ in 0..4 {
-        print!(rt; "{}", Answer(wire.number()))?;
-    }
-    println!(rt; "")
-}
-
-// Four tellings to a room.
-fn tell_all(rt: &HostRuntime, wire: &mut AnyWire, room: u8) -> io::Result<()> {
-    print!(rt; "  tells room {room}:")?;
-    for _ in 0..4 {
-        print!(rt; "{}", Answer(wire.tell_tentatively(room)))?;
+        print!(rt; "{}", Answer(ask()))?;
     }
     println!(rt; "")
 }
@@ -65,11 +57,13 @@ fn run(rt: &HostRuntime, wire: &mut AnyWire) -> io::Result<()> {
     if post_three(wire).is_err() {
         println!(rt; "  a post is refused")?;
     }
-    number_all(rt, wire)?;
-    tell_all(rt, wire, 0)?;
-    tell_all(rt, wire, 1)?;
-    tell_all(rt, wire, 2)?;
-    tell_all(rt, wire, 8)
+    print!(rt; "  numbers:")?;
+    print_four(rt, || wire.number())?;
+    for room in [0, 1, 2, 8] {
+        print!(rt; "  tells room {room}:")?;
+        print_four(rt, || wire.tell_tentatively(room))?;
+    }
+    Ok(())
 }
 
 fn main(rt: HostRuntime) -> io::Result<()> {

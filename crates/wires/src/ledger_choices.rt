@@ -8,7 +8,8 @@ use crate::policy::Policy;
 use crate::room_number::RoomNumber;
 
 impl Ledger {
-    // The room that posted a batch.
+    // The room that posted a batch. That the batch is posted is asked here and in other calls: it is a fact of ledger and number
+    // together, which no type of the number alone can hold.
     pub(crate) fn poster(&self, batch: u16) -> u8
         requires { batch < length (meaning_of self.now).posts }
         ensures { result ≡ poster (meaning_of self.now).posts batch }
