@@ -59,8 +59,7 @@ impl<'a> Fields<'a> {
         Ok(number as u8)
     }
 
-    // The number of four bytes, in eight digits. Inlined, the place of the next character is in a register: each digit of a
-    // call would write it to memory.
+    // The number of four bytes, in eight digits. It is inlined so that the place stays in a register while they are read.
     #[inline(always)]
     pub fn word(&mut self) -> Result<u32, TextFault>
         ensures value { result ≡ number_at self.old.line.now self.old.at 8 }
