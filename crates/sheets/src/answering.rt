@@ -82,8 +82,18 @@ fn write_answer(answered: Result<(FrameKind, Reply), Fault>, buffer: &mut [u8]) 
     let written = match answered {
         Ok((kind, reply)) => write_taken(kind.into(), reply, buffer),
         Err(Fault::Text(_)) => write_refused(NO_KIND, Refusal::NotAFrame, Layer::Text, buffer),
-        Err(Fault::Turn { kind }) => write_refused(kind.into(), Refusal::OutOfTurn, Layer::Turn, buffer),
-        Err(Fault::House { kind, cause }) => write_refused(kind.into(), cause, Layer::House, buffer),
+        Err(Fault::Turn { kind }) => write_refused(
+            kind.into(),
+            Refusal::OutOfTurn,
+            Layer::Turn,
+            buffer,
+        ),
+        Err(Fault::House { kind, cause }) => write_refused(
+            kind.into(),
+            cause,
+            Layer::House,
+            buffer,
+        ),
     };
     written.unwrap()
 }

@@ -1,5 +1,5 @@
 // Taking the memory of a house's books, and opening the books over it.
-ghost use Rattle.std.specs.Prelude.{◌≡◌, ◌≤◌, map, IfOk};
+ghost use Rattle.std.specs.Prelude.{◌≡◌, ◌≤◌, map};
 ghost use Rattle.lists.specs.Words.{rising};
 ghost use Rattle.stock.specs.StockBook.{book_holds};
 ghost use Rattle.sheets.specs.Books.{spare_in};
@@ -13,23 +13,15 @@ use crate::opening::Opening;
 use std::alloc::{AllocError, Global};
 use stock::{Entry, Journal, StockBook, Table};
 
+impl<T: Copy, const N: usize> Buffer<T, N> {
+    // Takes the memory of a buffer, filled with one element.
+    fn filled(heap: Global, element: T) -> Result<Buffer<T, N>, AllocError> {
+        let elements = vec![in heap; element; N]?;
+        Ok(Buffer { elements })
+    }
+}
+
 impl BookMemory {
-    // Takes the memory of a table.
-    fn table(heap: Global) -> Result<BookMemory, AllocError>
-        ensures { IfOk result (λ m. spare_in m ≡ 4096) }
-    {
-        let elements = vec![in heap; 0; 32]?;
-        Ok(BookMemory::Table(Buffer { elements }))
-    }
-
-    // Takes the memory of a journal.
-    fn journal(heap: Global) -> Result<BookMemory, AllocError>
-        ensures { IfOk result (λ m. spare_in m ≡ 1024) }
-    {
-        let elements = vec![in heap; Entry { base: 0, amount: 0 }; 1024]?;
-        Ok(BookMemory::Journal(Buffer { elements }))
-    }
-
     // Opens the book with the opening amounts.
     fn open(self, opening: &Opening) -> StockBook
         ensures { book_holds result ≡ record { amounts = amounts_of opening.now; spare = spare_in self } }
@@ -51,12 +43,13 @@ impl BookMemory {
 impl Memory {
     // Takes the memory of four books.
     pub(crate) fn take(heap: Global) -> Result<Memory, AllocError> {
+        let unused = Entry { base: 0, amount: 0 };
         Ok(Memory {
             rooms: [
-                BookMemory::table(heap)?,
-                BookMemory::table(heap)?,
-                BookMemory::journal(heap)?,
-                BookMemory::journal(heap)?,
+                BookMemory::Table(Buffer::filled(heap, 0)?),
+                BookMemory::Table(Buffer::filled(heap, 0)?),
+                BookMemory::Journal(Buffer::filled(heap, unused)?),
+                BookMemory::Journal(Buffer::filled(heap, unused)?),
             ],
             books: Vec::with_capacity(heap, 4)?,
         })
