@@ -6,7 +6,7 @@ use crate::layer::Layer;
 use crate::reply::Reply;
 use refusals::Refusal;
 
-// The capital digit of a number below 16; those of the library are small.
+// The capital digit of a number below 16. The library gives a small letter, in a `char`, to be raised and narrowed: no plainer.
 fn capital(n: u8) -> u8
     requires { n < 16 }
     ensures { result ≡ digit n }

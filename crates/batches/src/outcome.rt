@@ -2,7 +2,7 @@
 ghost use Rattle.std.specs.Prelude.{◌≡◌};
 ghost use Rattle.batches.specs.Runs.{outcome_number, failed_outcome};
 
-// The outcome of a run.
+// The outcome of a run. A rule of the project names these three, each with its number, and so no `Result`.
 #[derive(Clone, Copy, PartialEq, Eq, Debug)]
 pub enum Outcome {
     // every step was made
@@ -22,7 +22,7 @@ impl From<Outcome> for u8 {
     }
 }
 
-// Why a step is not made.
+// Why a step is not made: an outcome but the first.
 #[derive(Clone, Copy, PartialEq, Eq, Debug)]
 pub(crate) enum Failure {
     // it would take more than there is

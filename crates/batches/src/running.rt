@@ -70,7 +70,8 @@ fn sum_within_limit(there: u32, amount: u32) -> Result<u32, Failure>
         .ok_or(Failure::Over)
 }
 
-// The amount of a base.
+// The amount of a base. A base is a number here and below: a type of its own would serve these two functions alone, and no
+// plainer.
 fn held(amounts: &[u32; 32], base: u8) -> u32
     requires { base < 32 }
     ensures { result ≡ amounts_in amounts.now base }

@@ -7,7 +7,7 @@ use std::alloc::{AllocError, Global};
 use std::fs;
 use std::io::{BufRead, BufReader};
 
-// Whether a line begins with a kind that comes with a later delivery.
+// Whether a line begins with the kind of a call on a house, which no sheet takes yet.
 fn comes_later(line: &[u8]) -> bool {
     matches!(line, [b'1', b'0'..=b'7', ..])
 }

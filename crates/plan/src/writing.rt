@@ -31,22 +31,23 @@ impl PlanDraft {
         ensures refused { result_err result ≡ line_cause (draft_of self.old) set master }
         ensures cases { MatchResult result (λ _. draft_of self.new ≡ with_line (draft_of self.old) set master) (λ _. self.new ≡ self.old) }
     {
-        self.check_line(set, master)?;
-        self.masters.lines.push(PlanLine { set, master });
+        let line = PlanLine { set, master };
+        self.check_line(line)?;
+        self.masters.lines.push(line);
         Ok(())
     }
 
     // Refuses a line that has a cause for it.
-    fn check_line(&self, set: u32, master: u8) -> Result<(), Refusal>
-        ensures refused { result_err result ≡ line_cause (draft_of self.now) set master }
+    fn check_line(&self, line: PlanLine) -> Result<(), Refusal>
+        ensures refused { result_err result ≡ line_cause (draft_of self.now) line.set line.master }
     {
-        if master >= self.masters.rooms {
+        if line.master >= self.masters.rooms {
             return Err(Refusal::OutOfRange);
         }
-        if !sets::is_sized(set) {
+        if !sets::is_sized(line.set) {
             return Err(Refusal::SetSize);
         }
-        if self.masters.of(set).is_some() {
+        if self.masters.of(line.set).is_some() {
             return Err(Refusal::SetPlanned);
         }
         if self.masters.lines.is_full() {

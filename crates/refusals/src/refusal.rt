@@ -1,7 +1,7 @@
 ghost use Rattle.std.specs.Prelude.{◌≡◌};
 ghost use Rattle.refusals.specs.Causes.{number_of};
 
-// The causes, in the order in which checks are made.
+// The causes, in the order in which checks are made; but for a line of text the last two come next after the first.
 #[derive(Clone, Copy, PartialEq, Eq, Debug)]
 pub enum Refusal {
     // a buffer is too short, or a journal's too long

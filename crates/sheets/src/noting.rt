@@ -8,7 +8,7 @@ ghost use Rattle.sheets.specs.Views.{amounts_of};
 
 use crate::opening::Opening;
 use refusals::Refusal;
-use stock::limits::{LAST_BASE, LIMIT};
+use stock::limits::check_amount;
 
 impl Opening {
     // No base has any amount.
@@ -23,9 +23,7 @@ impl Opening {
         ensures refused { result_err result ≡ opening_cause base amount }
         ensures cases { MatchResult result (λ _. amounts_of self.new ≡ updated (amounts_of self.old) base amount) (λ _. self.new ≡ self.old) }
     {
-        if base > LAST_BASE || amount > LIMIT {
-            return Err(Refusal::OverLimit);
-        }
+        check_amount(base, amount)?;
         self.amounts[base as usize] = amount;
         Ok(())
     }

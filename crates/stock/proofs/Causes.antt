@@ -1,11 +1,13 @@
 -- What it says of a call that no cause holds, and the other way round.
 use Rattle.std.proofs.Common.{◌≡◌, ℕ, ◌<◌, ◌≤◌, Bool, true, false, List, get_or, take, is_ok, Some, None, Ok, Err, Option, Result, refl, arith}
 use Rattle.std.proofs.lemmas.List.{get_or-take}
+use Rattle.std.proofs.lemmas.Bool.{ltb-false}
 use Rattle.std.proofs.lemmas.Bool.Decides.{nat_tests}
 use Rattle.lists.specs.Words.{any}
+use Rattle.refusals.specs.Causes.{answer}
 use Rattle.refusals.specs.declared.refusal.Refusal.{Refusal}
 use Rattle.sets.specs.Sets.{size}
-use Rattle.stock.specs.Stock.{Stock, Writing, write_cause, over_limit}
+use Rattle.stock.specs.Stock.{Stock, Writing, write_cause, over_limit, base_cause, amount_cause}
 use Rattle.stock.specs.BySet.{write_set_cause}
 use Rattle.stock.specs.Openings.{opening_cause}
 use Rattle.stock.proofs.Bounds.{small-get_or}
@@ -22,6 +24,13 @@ write_taken_lem s base amount p b a = grind (arith, nat_tests)
 pub write_ok : {B : Type 0} (holds : B → Stock) (old new : B) (base amount : ℕ) (r : Result Unit Refusal) → write_cause (holds old) base amount ≡ None → Writing holds old new base amount r → is_ok r ≡ true
 write_ok holds old new base amount (Ok _) none w = refl
 write_ok holds old new base amount (Err e) none w = absurd (never_both none w.why)
+
+-- what is known of a base and an amount that no cause is found against
+pub base_taken : (base : ℕ) (x : Unit {0}) → Ok x ≡ answer (base_cause base) tt → base ≤ 31
+base_taken base x h = ltb-false 31 base (grind arith)
+
+pub amount_taken : (base amount : ℕ) (x : Unit {0}) → Ok x ≡ answer (amount_cause base amount) tt → (base ≤ 31) × (amount ≤ 1000000000)
+amount_taken base amount x h = (ltb-false 31 base (grind arith), ltb-false 1000000000 amount (grind arith))
 
 -- what is known of a book that is opened: its buffer's length fits, and no opening amount is above the limit
 pub opening_taken : (fits : Bool) (opening : List ℕ) → opening_cause fits opening ≡ None → (fits ≡ true) × (any over_limit opening ≡ false)

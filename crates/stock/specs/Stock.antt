@@ -28,9 +28,17 @@ pub record Sound (s : Stock) : Type 0 where
   pub small : (x : ℕ) → s.amounts x ≤ 1000000000
   pub none_above : (x : ℕ) → 31 < x → s.amounts x ≡ 0
 
+-- why a number is no base
+abbrev pub base_cause : ℕ → Option Refusal
+base_cause base = first_cause ((nat_lt 31 base, OverLimit) ∷ [])
+
+-- why a base has no such amount: it is no base, or the amount is above the limit
+abbrev pub amount_cause : ℕ → ℕ → Option Refusal
+amount_cause base amount = first_cause ((nat_lt 31 base || over_limit amount, OverLimit) ∷ [])
+
 -- the answer to the question for an amount
 abbrev pub amount_of : Stock → ℕ → Result ℕ Refusal
-amount_of s base = answer (first_cause ((nat_lt 31 base, OverLimit) ∷ [])) (s.amounts base)
+amount_of s base = answer (base_cause base) (s.amounts base)
 
 -- why a write is refused
 abbrev pub write_cause : Stock → ℕ → ℕ → Option Refusal

@@ -66,6 +66,7 @@ pub fn pack(set: u32, amounts: &[u32; 32]) -> [u32; 8]
     ensures whole { size set ≤ 8 → result ≡ packed set (amounts_in amounts.now) }
 {
     let mut packed = [0; 8];
+    // by the place, since a proof knows nothing of what is written through an adapter of `iter_mut`
     for (place, base) in (0..8).zip(rising_bases(set)) {
         packed[place] = amounts[base as usize];
     }

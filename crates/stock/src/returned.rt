@@ -1,4 +1,4 @@
-// What comes back where a book is not opened.
+// The buffer that a book is opened over, and what comes back where it is not.
 ghost use Rattle.std.specs.Prelude.{◌≡◌, None, MatchResult};
 ghost use Rattle.stock.specs.Openings.{HandedBack, opening_cause};
 

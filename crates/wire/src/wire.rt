@@ -50,7 +50,8 @@ pub trait Wire {
         ensures cases { Announcing (meaning self.old) (meaning self.new) sender announcement result }
         ensures same { OnErr result (self.new ≡ self.old) };
 
-    // A sender's next announcement for a room, which stays there.
+    // A sender's next announcement for a room, which stays there. Room and sender stand apart, here and in a wire: a caller is
+    // the one, and names the other.
     fn next_announcement(&self, room: u8, sender: u8) -> Result<Announcement, Refusal>
         ensures cases { Looking (meaning self.now) room sender result };
 

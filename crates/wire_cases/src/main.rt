@@ -52,7 +52,7 @@ fn open(rt: &HostRuntime, kind: WireKind, name: &str) -> io::Result<AnyWire> {
     Ok(AnyWire::open_kind(rt.alloc(), kind)?)
 }
 
-// Posts, then numbers all and tells rooms 0, 1 and 2.
+// Posts, then numbers all and tells rooms 0, 1 and 2, and 8, which is none.
 fn run(rt: &HostRuntime, wire: &mut AnyWire) -> io::Result<()> {
     if post_three(wire).is_err() {
         println!(rt; "  a post is refused")?;

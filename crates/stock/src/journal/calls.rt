@@ -7,7 +7,7 @@ ghost use Rattle.stock.specs.Journal.{journal_items, written_entries, journal_ho
 use super::Journal;
 use crate::book::Book;
 use crate::entry::Entry;
-use crate::limits::{LAST_BASE, LIMIT};
+use crate::limits::{check_amount, check_base};
 use crate::returned::{Returned, accept};
 use refusals::Refusal;
 
@@ -69,9 +69,7 @@ impl Book for Journal {
     ghost sound = { λ j. record { small = j.small; none_above = j.beyond } };
 
     fn amount(&self, base: u8) -> Result<u32, Refusal> {
-        if base > LAST_BASE {
-            return Err(Refusal::OverLimit);
-        }
+        check_base(base)?;
         match self.last_entry(base) {
             Some(place) => Ok(self.buffer[place].amount),
             None => Ok(self.opening[base as usize]),
@@ -86,9 +84,7 @@ impl Book for Journal {
         if self.used == self.buffer.len() {
             return Err(Refusal::TooFewSpare);
         }
-        if base > LAST_BASE || amount > LIMIT {
-            return Err(Refusal::OverLimit);
-        }
+        check_amount(base, amount)?;
         let place = self.used;
         self.buffer[place] = Entry { base, amount };
         self.used += 1;

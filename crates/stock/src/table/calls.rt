@@ -6,7 +6,7 @@ ghost use Rattle.stock.specs.Table.{table_items, table_holds, table_cause, Table
 
 use super::Table;
 use crate::book::Book;
-use crate::limits::{BASES, LAST_BASE, LIMIT};
+use crate::limits::{BASES, check_amount, check_base};
 use crate::returned::{Returned, accept};
 use refusals::Refusal;
 
@@ -49,9 +49,7 @@ impl Book for Table {
     ghost sound = { λ t. record { small = t.small; none_above = amounts_in-none (table_items t) } };
 
     fn amount(&self, base: u8) -> Result<u32, Refusal> {
-        if base > LAST_BASE {
-            return Err(Refusal::OverLimit);
-        }
+        check_base(base)?;
         Ok(self.buffer[base as usize])
     }
 
@@ -60,9 +58,7 @@ impl Book for Table {
     }
 
     fn write(&mut self, base: u8, amount: u32) -> Result<(), Refusal> {
-        if base > LAST_BASE || amount > LIMIT {
-            return Err(Refusal::OverLimit);
-        }
+        check_amount(base, amount)?;
         self.buffer[base as usize] = amount;
         Ok(())
     }
