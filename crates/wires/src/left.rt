@@ -9,8 +9,8 @@ use std::marker::Model;
 // The posted batches that a list lacks. A contract sees the posts and the list.
 #[derive(Drop)]
 pub struct Left<'a> {
-    pub(crate) posts: &'a [Post],
-    pub(crate) list: &'a BatchList,
+    pub posts: &'a [Post],
+    pub list: &'a BatchList,
 }
 
 impl<'a> Model for Left<'a> {
