@@ -30,7 +30,8 @@ impl BatchList {
         batch < self.marks.len() && self.marks[batch]
     }
 
-    // Puts a batch at the end.
+    // Puts a batch at the end. That there is place is asked here and of a page: facts of five lists and counts, each another,
+    // which the ledger knows by what it keeps.
     pub(crate) fn append(&mut self, batch: u16)
         requires small { batch < 256 }
         requires room { length (numbers_of self.old) < 256 }

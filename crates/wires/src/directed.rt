@@ -17,6 +17,7 @@ impl Directed {
     fn choose(&self, left: &Left) -> Option<usize>
         ensures { result ≡ head (wish_first self.now.wish left.now.posts left.now.list) }
     {
+        // A `match` with a guard: the closures of a `filter` and an `or_else` would need clauses of their own, no plainer.
         match self.wish {
             Some(wish) if left.has(wish as usize) => Some(wish as usize),
             _ => left.oldest(),

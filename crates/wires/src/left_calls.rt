@@ -20,7 +20,7 @@ impl Left<'_> {
         (0..self.posts.len()).find(|&batch| !self.list.holds(batch))
     }
 
-    // The oldest that a room posted.
+    // The oldest that is left of those that a room posted.
     pub fn oldest_of(&self, room: u8) -> Option<usize>
         ensures { result ≡ head (left_of self.now.posts self.now.list room) }
     {
@@ -28,7 +28,7 @@ impl Left<'_> {
             && !self.list.holds(batch))
     }
 
-    // Going round the rooms from one of them, the oldest that the first room with any posted.
+    // Going round the rooms from one of them, the oldest that is left of the first room that posted one of these.
     pub fn oldest_round(&self, from: u8) -> Option<usize>
         ensures { result ≡ head (left_round self.now.posts self.now.list from) }
     {

@@ -34,7 +34,7 @@ impl Policy for Sequenced {
     }
 
     fn choose_telling(&self, left: &Left, room: u8) -> Option<usize> {
-        // A `match`, since the closure of an `or_else` that captures `left` proves only with a clause of its own.
+        // A `match`: the closure of an `or_else` captures `left`, and would need a clause of its own, which is no plainer.
         match left.oldest_of(room) {
             Some(own) => Some(own),
             None => left.oldest(),
