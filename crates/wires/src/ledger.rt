@@ -7,7 +7,8 @@ use crate::batch_list::BatchList;
 use crate::page::Page;
 use crate::post::Post;
 
-// Everything that a wire keeps but the choice: the posted batches, the definitive list, and a page for each of eight rooms.
+// Everything that a wire keeps but the choice: the posted batches, the definitive list, and a page for each of eight rooms. The
+// pages stand in a `Vec`, for each may want for memory: an array made by a closure would need a clause on it, no plainer.
 #[derive(Drop)]
 pub struct Ledger {
     pub(crate) posts: Vec<Post>,
