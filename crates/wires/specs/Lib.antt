@@ -3,6 +3,7 @@ pub mod Parts
 pub mod RoomNumbers
 pub mod Meaning
 pub mod Orders
+pub mod Rule
 pub mod Kinds
 pub mod AnyPolicies
 pub mod Examples

@@ -15,9 +15,15 @@ impl PolicyWire<AnyPolicy> {
         ensures after { IfOk result (λ w. meaning_of w.ledger ≡ new_wire) }
         ensures policy { IfOk result (λ w. w.policy ≡ any_fresh kind) }
     {
-        Ok(PolicyWire {
-            policy: AnyPolicy::of_kind(kind),
-            ..PolicyWire::open(heap)?
-        })
+        Ok(Self::open(heap)?.with_kind(kind))
+    }
+
+    // The same ledger under the policy of a new wire of a kind.
+    pub fn with_kind(mut self, kind: WireKind) -> PolicyWire<AnyPolicy>
+        ensures ledger { result.ledger ≡ self.ledger }
+        ensures policy { result.policy ≡ any_fresh kind }
+    {
+        self.policy = AnyPolicy::of_kind(kind);
+        self
     }
 }

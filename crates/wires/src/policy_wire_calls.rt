@@ -1,11 +1,13 @@
-ghost use Rattle.std.specs.Prelude.{◌≡◌, ℕ, List, length, IfOk, OnErr};
+ghost use Rattle.std.specs.Prelude.{◌≡◌, ℕ, List, length, IfOk, OnErr, refl};
 ghost use Rattle.std.specs.Option.{option_map};
 ghost use Rattle.batches.specs.Sealed.{batch_of};
 ghost use Rattle.batches.specs.declared.sealed.SealedBatch.{SealedBatch as Sealed};
 ghost use Rattle.wire.specs.Wire.{new_wire};
+ghost use Rattle.wire.specs.Choices.{numbering, telling, wished, nothing};
 ghost use Rattle.wire.specs.Promises.{Posting, Numbering, Hearing, Telling, Announcing, Looking, Taking, posted_batch};
 ghost use Rattle.wires.specs.Meaning.{meaning_of};
 ghost use Rattle.wires.specs.Orders.{poster, ByOrder};
+ghost use Rattle.wires.specs.Rule.{GoesBy};
 ghost use Rattle.wires.specs.Laws.{sound_of};
 
 use crate::ledger::Ledger;
@@ -17,10 +19,15 @@ use refusals::Refusal;
 use std::alloc::{AllocError, Global};
 use wire::{Announcement, Wire};
 
+// A wire over any policy is a wire. Its own rule is that it goes by its policy.
 impl<P: Policy> Wire for PolicyWire<P> {
     ghost meaning = { λ w. meaning_of w.ledger };
 
+    ghost chooses = { λ w choice v. GoesBy P.Policy (meaning_of w.ledger) w.policy choice v.policy };
+
     ghost sound = { λ w. sound_of w.ledger };
+
+    ghost idle = { λ w. refl };
 
     fn open(heap: Global) -> Result<PolicyWire<P>, AllocError>
         ensures after { IfOk result (λ w. meaning_of w.ledger ≡ new_wire) }
@@ -36,6 +43,7 @@ impl<P: Policy> Wire for PolicyWire<P> {
         ensures cases { Posting (meaning_of self.old.ledger) (meaning_of self.new.ledger) room (batch_of batch) result }
         ensures same { OnErr result (self.new ≡ self.old) }
         ensures policy { self.new.policy ≡ self.old.policy }
+        ensures choice { GoesBy P.Policy (meaning_of self.old.ledger) self.old.policy nothing self.new.policy }
     {
         self.ledger.post(room, batch)
     }
@@ -44,6 +52,7 @@ impl<P: Policy> Wire for PolicyWire<P> {
         ensures cases { Numbering (meaning_of self.old.ledger) (meaning_of self.new.ledger) result }
         ensures same { OnErr result (self.new ≡ self.old) }
         ensures policy { IfOk result (λ b. ByOrder (P.Policy.numbers self.old.policy (meaning_of self.old.ledger).posts (meaning_of self.old.ledger).definitive) b self.new.policy (P.Policy.served self.old.policy (poster (meaning_of self.old.ledger).posts b))) }
+        ensures choice { GoesBy P.Policy (meaning_of self.old.ledger) self.old.policy (numbering result) self.new.policy }
     {
         let batch = self
             .ledger
@@ -59,6 +68,7 @@ impl<P: Policy> Wire for PolicyWire<P> {
         ensures cases { Hearing (meaning_of self.old.ledger) (meaning_of self.new.ledger) room result }
         ensures same { OnErr result (self.new ≡ self.old) }
         ensures policy { IfOk result (λ b. ByOrder (P.Policy.tells self.old.policy (meaning_of self.old.ledger).posts ((meaning_of self.old.ledger).tentative room) room) b self.new.policy (P.Policy.heard self.old.policy)) }
+        ensures choice { GoesBy P.Policy (meaning_of self.old.ledger) self.old.policy (telling room result) self.new.policy }
     {
         let room = RoomNumber::try_from(room)?;
         let batch = self
@@ -74,6 +84,7 @@ impl<P: Policy> Wire for PolicyWire<P> {
         ensures cases { Telling (meaning_of self.old.ledger) (meaning_of self.new.ledger) room result }
         ensures same { OnErr result (self.new ≡ self.old) }
         ensures policy { self.new.policy ≡ self.old.policy }
+        ensures choice { GoesBy P.Policy (meaning_of self.old.ledger) self.old.policy nothing self.new.policy }
     {
         self.ledger.tell_definitively(room)
     }
@@ -82,6 +93,7 @@ impl<P: Policy> Wire for PolicyWire<P> {
         ensures cases { Announcing (meaning_of self.old.ledger) (meaning_of self.new.ledger) sender announcement result }
         ensures same { OnErr result (self.new ≡ self.old) }
         ensures policy { self.new.policy ≡ self.old.policy }
+        ensures choice { GoesBy P.Policy (meaning_of self.old.ledger) self.old.policy nothing self.new.policy }
     {
         self.ledger.announce(sender, announcement)
     }
@@ -94,6 +106,7 @@ impl<P: Policy> Wire for PolicyWire<P> {
         ensures cases { Taking (meaning_of self.old.ledger) (meaning_of self.new.ledger) room sender result }
         ensures same { OnErr result (self.new ≡ self.old) }
         ensures policy { self.new.policy ≡ self.old.policy }
+        ensures choice { GoesBy P.Policy (meaning_of self.old.ledger) self.old.policy nothing self.new.policy }
     {
         self.ledger.take_announcement(room, sender)
     }
@@ -101,6 +114,7 @@ impl<P: Policy> Wire for PolicyWire<P> {
     fn wish(&mut self, batch: u16)
         ensures same { meaning_of self.new.ledger ≡ meaning_of self.old.ledger }
         ensures policy { self.new.policy ≡ P.Policy.wished self.old.policy batch }
+        ensures choice { GoesBy P.Policy (meaning_of self.old.ledger) self.old.policy (wished batch) self.new.policy }
     {
         self.policy.note_wish(batch);
     }

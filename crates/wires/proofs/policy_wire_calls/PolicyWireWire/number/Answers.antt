@@ -20,10 +20,13 @@ returns g c =
     let w = meaning_of l in
     let is = c.in_ok-batch.ensures.ok_part in
     let chosen = may_choose l w.definitive _ (g.met.P.Policy.numbering c.args.self.now.policy w.posts w.definitive) c.in_ok-batch.batch c.choose_number.result c.choose_number.ensures is in
+    let first = sym c.choose_number.ensures ∙ is in
+    let after = c.note_numbered.ensures ∙ ap (g.P.Policy.served c.args.self.now.policy) c.poster-room.ensures in
     record {
       cases = record { cause = rw (chosen-left w w.definitive c.in_ok-batch.batch chosen); chosen = chosen; after = c.number.ensures };
       same = tt;
-      policy = record { value = sym c.choose_number.ensures ∙ is; after = c.note_numbered.ensures ∙ ap (g.P.Policy.served c.args.self.now.policy) c.poster-room.ensures };
+      policy = record { value = first; after = after };
+      choice = record { value = first; after = after };
     }
 
 pub returns-in_err-batch : goal.returns-in_err-batch

@@ -32,6 +32,7 @@ returns g c =
       };
       same = tt;
       policy = record { value = first; after = c.note_told.ensures };
+      choice = record { value = first; after = c.note_told.ensures };
     }
 
 pub returns-in_err-batch : goal.returns-in_err-batch
