@@ -1,4 +1,2 @@
-mod Amounts
-mod Opened
 mod Refused
 mod KindNumbers

@@ -2,4 +2,3 @@ pub mod Sheet
 pub mod Steps
 pub mod Lines
 pub mod Views
-pub mod Books

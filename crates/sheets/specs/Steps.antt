@@ -1,11 +1,13 @@
 -- What a line of a sheet does: the three layers, one after another.
-use Rattle.std.specs.Prelude.{◌≡◌, ℕ, Bool, true, false, cond, not, ◌&&◌, ◌||◌, List, [], ◌∷◌, map, length, Some, None, Ok, Err, Option, Result, nat_le, nat_lt, slice_index_or}
+use Rattle.std.specs.Prelude.{◌≡◌, ℕ, Bool, true, false, not, ◌&&◌, List, [], ◌∷◌, map, length, Some, None, Ok, Err, Option, Result, nat_le, nat_lt, slice_index_or}
 use Rattle.lists.specs.Words.{updated, rising}
 use Rattle.refusals.specs.Causes.{first_cause, answer}
 use Rattle.refusals.specs.declared.refusal.Refusal.{Refusal}
 use Rattle.refusals.specs.declared.refusal.Refusal.TheVariants.{OutOfRange, OverLimit}
 use Rattle.plan.specs.Plan.{Plan, line_cause, with_line}
-use Rattle.stock.specs.Stock.{Amounts, Stock}
+use Rattle.stock.specs.Stock.{Stock}
+use Rattle.openings.specs.Amounts.{opening_cause}
+use Rattle.openings.specs.Books.{new_book}
 use Rattle.frames.specs.declared.frame.Frame.{Frame}
 use Rattle.frames.specs.declared.frame.Frame.TheVariants.{Begin, PlanLine, Opening, Seal, Amount}
 use Rattle.answers.specs.declared.reply.Reply.{Reply}
@@ -57,10 +59,6 @@ stage_books (open_house plan wire books) = books
 abbrev pub no_book : Stock
 no_book = record { amounts = (λ _. 0); spare = 0 }
 
--- the book that a room opens with: rooms 0 and 1 keep tables, the others journals of 1,024 entries
-abbrev pub new_book : Amounts → ℕ → Stock
-new_book opening room = record { amounts = opening; spare = cond (nat_lt room 2) 4096 1024 }
-
 -- the house layer
 
 -- why the question for a room's amount of a base is refused, and its answer
@@ -77,10 +75,6 @@ no_kind number = not (nat_le 1 number && nat_le number 3)
 -- why a plan is not begun: it is not for one to four rooms, or no wire has the kind
 abbrev pub begin_cause : ℕ → ℕ → Option Refusal
 begin_cause rooms wire = first_cause ((not (nat_le 1 rooms && nat_le rooms 4), OutOfRange) ∷ (no_kind wire, OutOfRange) ∷ [])
-
--- why an opening amount is not noted
-abbrev pub opening_cause : ℕ → ℕ → Option Refusal
-opening_cause base amount = first_cause ((nat_lt 31 base || nat_lt 1000000000 amount, OverLimit) ∷ [])
 
 -- why a frame in turn is refused
 abbrev pub frame_cause : Sheet → Frame → Option Refusal

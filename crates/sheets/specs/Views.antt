@@ -1,20 +1,16 @@
 -- A sheet in code, as what it has come to.
 use Rattle.std.specs.Prelude.{ℕ, map, vec_items}
 use Rattle.plan.specs.Plans.{draft_of, plan_of}
-use Rattle.stock.specs.Stock.{Amounts, amounts_in}
+use Rattle.stock.specs.Stock.{Amounts}
 use Rattle.stock.specs.StockBook.{book_holds}
+use Rattle.openings.specs.Amounts.{amounts_of}
 use Rattle.sheets.specs.declared.draft.Draft.{Draft}
 use Rattle.sheets.specs.declared.open_house.OpenHouse.{OpenHouse}
-use Rattle.sheets.specs.declared.opening.Opening.{Opening}
 use Rattle.sheets.specs.declared.sheet.Sheet.{Sheet as SheetInCode}
 use Rattle.sheets.specs.declared.stage.Stage.{Stage as StageInCode}
 use Rattle.sheets.specs.declared.stage.Stage.TheVariants.{Blank, Planning, Open}
 use Rattle.wires.specs.Kinds.{kind_number}
 use Rattle.sheets.specs.Sheet.{Sheet, Stage, blank, planning, open_house}
-
--- the amount of each base at opening
-abbrev pub amounts_of : Opening → Amounts
-amounts_of opening = amounts_in opening.amounts
 
 -- the stage of a plan that is being written
 abbrev pub planning_of : Draft → Stage

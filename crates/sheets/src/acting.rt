@@ -1,17 +1,18 @@
 // The turn and the house layer: what each frame does where it is in turn.
 ghost use Rattle.std.specs.Prelude.{◌≡◌, ℕ};
 ghost use Rattle.stock.specs.Stock.{Amounts};
+ghost use Rattle.openings.specs.Amounts.{amounts_of};
 ghost use Rattle.sheets.specs.Steps.{Turning};
-ghost use Rattle.sheets.specs.Views.{sheet_at, sheet_of, amounts_of};
+ghost use Rattle.sheets.specs.Views.{sheet_at, sheet_of};
 ghost use Rattle.frames.specs.declared.frame.Frame.TheVariants.{Begin, Seal};
 
 use crate::draft::Draft;
-use crate::opening::Opening;
 use crate::sheet::Sheet;
 use crate::stage::Stage;
 use answers::Reply;
 use core::mem::replace_with;
 use frames::Frame;
+use openings::Opening;
 use refusals::Refusal;
 
 impl Stage {

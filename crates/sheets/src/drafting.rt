@@ -5,14 +5,15 @@ ghost use Rattle.lists.specs.Words.{rising};
 ghost use Rattle.plan.specs.Plan.{Plan, line_cause, with_line};
 ghost use Rattle.plan.specs.Plans.{draft_of};
 ghost use Rattle.wires.specs.Kinds.{kind_number};
+ghost use Rattle.openings.specs.Amounts.{amounts_of};
+ghost use Rattle.openings.specs.Books.{new_book};
 ghost use Rattle.sheets.specs.Sheet.{Stage, planning, open_house};
-ghost use Rattle.sheets.specs.Steps.{begin_cause, new_book};
-ghost use Rattle.sheets.specs.Views.{amounts_of, planning_of, open_of};
+ghost use Rattle.sheets.specs.Steps.{begin_cause};
+ghost use Rattle.sheets.specs.Views.{planning_of, open_of};
 
 use crate::draft::Draft;
-use crate::memory::Memory;
 use crate::open_house::OpenHouse;
-use crate::opening::Opening;
+use openings::{BooksMemory, Opening};
 use plan::PlanDraft;
 use refusals::Refusal;
 use wires::WireKind;
@@ -41,7 +42,7 @@ impl Draft {
     }
 
     // Seals the plan and opens the house, whose books all have the opening amounts.
-    pub(crate) fn open(self, memory: Memory, opening: &Opening) -> OpenHouse
+    pub(crate) fn open(self, memory: BooksMemory, opening: &Opening) -> OpenHouse
         ensures { open_of result ≡ open_house (draft_of self.plan) (kind_number self.wire) (map (new_book (amounts_of opening.now)) (rising 0 (draft_of self.plan).rooms)) }
     {
         let plan = self.plan.seal();

@@ -2,9 +2,8 @@ ghost use Rattle.std.specs.Prelude.{◌≡◌, IfOk};
 ghost use Rattle.sheets.specs.Lines.{new_sheet};
 ghost use Rattle.sheets.specs.Views.{sheet_of};
 
-use crate::memory::Memory;
-use crate::opening::Opening;
 use crate::stage::Stage;
+use openings::{BooksMemory, Opening};
 use std::alloc::{AllocError, Global};
 
 // A sheet as far as its lines have come.
@@ -20,7 +19,7 @@ impl Sheet {
     pub fn new(heap: Global) -> Result<Sheet, AllocError>
         ensures { IfOk result (λ s. sheet_of s ≡ new_sheet) }
     {
-        let memory = Memory::take(heap)?;
+        let memory = BooksMemory::take(heap)?;
         Ok(Sheet {
             lines: 0,
             opening: Opening::new(),

@@ -1,4 +1,4 @@
-use Rattle.sheets.specs.Views.{amounts_of}
+use Rattle.openings.specs.Amounts.{amounts_of}
 use Rattle.sheets.proofs.sheet.Sheet.act.Goals as goal
 
 pub returns-in-Begin-default : goal.returns-in-Begin-default

@@ -2,13 +2,12 @@
 ghost use Rattle.std.specs.Prelude.{◌≡◌, ◌≤◌, map};
 ghost use Rattle.lists.specs.Words.{rising};
 ghost use Rattle.stock.specs.StockBook.{book_holds};
-ghost use Rattle.sheets.specs.Books.{spare_in};
-ghost use Rattle.sheets.specs.Steps.{new_book};
-ghost use Rattle.sheets.specs.Views.{amounts_of};
+ghost use Rattle.openings.specs.Amounts.{amounts_of};
+ghost use Rattle.openings.specs.Books.{new_book, spare_in};
 
 use crate::book_memory::BookMemory;
+use crate::books_memory::BooksMemory;
 use crate::buffer::Buffer;
-use crate::memory::Memory;
 use crate::opening::Opening;
 use std::alloc::{AllocError, Global};
 use stock::{Entry, Journal, StockBook, Table};
@@ -40,11 +39,11 @@ impl BookMemory {
     }
 }
 
-impl Memory {
+impl BooksMemory {
     // Takes the memory of four books.
-    pub(crate) fn take(heap: Global) -> Result<Memory, AllocError> {
+    pub fn take(heap: Global) -> Result<BooksMemory, AllocError> {
         let unused = Entry { base: 0, amount: 0 };
-        Ok(Memory {
+        Ok(BooksMemory {
             rooms: [
                 BookMemory::Table(Buffer::filled(heap, 0)?),
                 BookMemory::Table(Buffer::filled(heap, 0)?),
@@ -55,8 +54,9 @@ impl Memory {
         })
     }
 
-    // Opens the books of so many rooms, all with the same amounts.
-    pub(crate) fn open_books(self, rooms: u8, opening: &Opening) -> Vec<StockBook>
+    // Opens the books of so many rooms, all with the same amounts. No more than four rooms are asked for, since the memory is
+    // that of four books.
+    pub fn open_books(self, rooms: u8, opening: &Opening) -> Vec<StockBook>
         requires { rooms ≤ 4 }
         ensures { map book_holds result.items ≡ map (new_book (amounts_of opening.now)) (rising 0 rooms) }
     {

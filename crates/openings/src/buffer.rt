@@ -1,6 +1,6 @@
 ghost use Rattle.std.specs.Prelude.{◌≡◌, vec_len};
 
-// A buffer of so many elements, taken before the first line.
+// A buffer of so many elements.
 #[derive(Drop)]
 pub struct Buffer<T, const N: usize> {
     pub(crate) elements: Vec<T>,

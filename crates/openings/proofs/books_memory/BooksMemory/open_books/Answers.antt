@@ -4,11 +4,11 @@ use Rattle.std.proofs.lemmas.Iterator.{YieldsList-from_take}
 use Rattle.std.proofs.lemmas.Iterator.Consumers.{YieldsList-from_shown, YieldsList-end}
 use Rattle.std.specs.Array.Iter.{array_steps, array_into_iter_items}
 use Rattle.std.specs.Iterator.Adapters.{take_source, take_count}
-use Rattle.sheets.specs.declared.book_memory.BookMemory.{BookMemory}
-use Rattle.sheets.specs.Books.{spare_in}
-use Rattle.sheets.specs.Views.{amounts_of}
-use Rattle.sheets.proofs.Opened.{with_spare, opened}
-use Rattle.sheets.proofs.memory.Memory.open_books.Goals as goal
+use Rattle.openings.specs.declared.book_memory.BookMemory.{BookMemory}
+use Rattle.openings.specs.Books.{spare_in}
+use Rattle.openings.specs.Amounts.{amounts_of}
+use Rattle.openings.proofs.Opened.{with_spare, opened}
+use Rattle.openings.proofs.books_memory.BooksMemory.open_books.Goals as goal
 
 pub returns : goal.returns
 returns c =

@@ -1,8 +1,8 @@
 use Rattle.std.proofs.Common.{◌≡◌, ◌≤◌, map, length, vec_len, vec_items, vec_capacity}
 use Rattle.stock.specs.StockBook.{book_holds}
-use Rattle.sheets.specs.Books.{spare_in}
-use Rattle.sheets.specs.Views.{amounts_of}
-use Rattle.sheets.proofs.memory.Memory.open_books.Given as goal
+use Rattle.openings.specs.Books.{spare_in}
+use Rattle.openings.specs.Amounts.{amounts_of}
+use Rattle.openings.proofs.books_memory.BooksMemory.open_books.Given as goal
 
 abbrev pub invariant-loop-memory : goal.invariant-loop-memory
 invariant-loop-memory l = record {

@@ -1,10 +1,9 @@
-// What can be done with the opening amounts of a sheet.
+// What can be done with opening amounts.
 ghost use Rattle.std.specs.Prelude.{◌≡◌, MatchResult};
 ghost use Rattle.std.specs.Result.{result_err};
 ghost use Rattle.lists.specs.Words.{updated};
 ghost use Rattle.stock.specs.Stock.{amounts_in};
-ghost use Rattle.sheets.specs.Steps.{opening_cause};
-ghost use Rattle.sheets.specs.Views.{amounts_of};
+ghost use Rattle.openings.specs.Amounts.{amounts_of, opening_cause};
 
 use crate::opening::Opening;
 use refusals::Refusal;
@@ -12,14 +11,14 @@ use stock::limits::check_amount;
 
 impl Opening {
     // No base has any amount.
-    pub(crate) fn new() -> Opening
+    pub fn new() -> Opening
         ensures { amounts_of result ≡ (λ _. 0) }
     {
         Opening { amounts: [0; 32] }
     }
 
     // Notes the amount of a base. A base above 31 or an amount above the limit is refused, and changes nothing.
-    pub(crate) fn note(&mut self, base: u8, amount: u32) -> Result<(), Refusal>
+    pub fn note(&mut self, base: u8, amount: u32) -> Result<(), Refusal>
         ensures refused { result_err result ≡ opening_cause base amount }
         ensures cases { MatchResult result (λ _. amounts_of self.new ≡ updated (amounts_of self.old) base amount) (λ _. self.new ≡ self.old) }
     {

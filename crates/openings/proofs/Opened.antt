@@ -2,9 +2,9 @@
 use Rattle.std.proofs.Common.{◌≡◌, ℕ, zero, suc, ◌≤◌, List, [], ◌∷◌, map, take, refl, ap, ◌∙◌, arith}
 use Rattle.lists.specs.Words.{rising}
 use Rattle.stock.specs.Stock.{Amounts, Stock}
-use Rattle.sheets.specs.Books.{spare_in}
-use Rattle.sheets.specs.Steps.{new_book}
-use Rattle.sheets.specs.declared.book_memory.BookMemory.{BookMemory}
+use Rattle.openings.specs.Books.{spare_in}
+use Rattle.openings.specs.Books.{new_book}
+use Rattle.openings.specs.declared.book_memory.BookMemory.{BookMemory}
 
 -- a new book with so many spare entries
 abbrev pub with_spare : Amounts → ℕ → Stock

@@ -1,8 +1,8 @@
 use Rattle.std.proofs.lemmas.Bool.{le-ltb}
 use Rattle.stock.specs.Stock.{over_limit}
 use Rattle.stock.proofs.Causes.{amount_taken}
-use Rattle.sheets.proofs.Amounts.{small-set}
-use Rattle.sheets.proofs.opening.Opening.note.Goals as goal
+use Rattle.openings.proofs.Amounts.{small-set}
+use Rattle.openings.proofs.opening.Opening.note.Goals as goal
 
 pub invariant_of-self : goal.invariant_of-self
 invariant_of-self c =
