@@ -2,7 +2,7 @@
 -- hold the first one's amounts.
 use Rattle.std.proofs.Common.{◌≡◌, ℕ, zero, suc, ◌+◌, ◌<◌, Bool, true, false, cond, not, eqb, List, [], ◌∷◌, ◌++◌, map, length, get_or, Some, None, sym, refl, ap, ◌∙◌, subst, arith}
 use mathlib.Core.Path.{fun_ext}
-use Rattle.std.proofs.lemmas.Bool.{eqb-true, eq-eqb, ne_eqb}
+use Rattle.std.proofs.lemmas.Bool.{eqb-true}
 use Rattle.lists.specs.Words.{rising}
 use Rattle.stock.specs.Stock.{Amounts, Stock, Sound}
 use Rattle.plan.specs.Plan.{Plan, plan_right}
@@ -11,7 +11,7 @@ use Rattle.agreement.specs.Rooms.{Room, new_room}
 use Rattle.agreement.specs.Houses.{Given, House, opened}
 use Rattle.agreement.specs.Calls.{Performed, opens}
 use Rattle.house.specs.declared.unopened.WhyUnopened.{WhyUnopened}
-use Rattle.house.specs.declared.unopened.WhyUnopened.TheVariants.{BookCount, UnequalBooks, UsedWire}
+use Rattle.house.specs.declared.unopened.WhyUnopened.TheVariants.{BookCount, UnequalBooks}
 use Rattle.house.specs.Views.{view, Held}
 use Rattle.house.specs.Openings.{no_book, given_of, same_amounts, all_equal, open_reason, AllNew}
 use Rattle.house.proofs.Equals.{each_place, same_whole}
@@ -28,25 +28,6 @@ new-push [] r h e zero = e
 new-push [] r h e (suc k) = refl
 new-push (x ∷ rooms) r h e zero = h 0
 new-push (x ∷ rooms) r h e (suc k) = new-push rooms r (λ k. h (suc k)) e k
-
--- a reason is the first of the three that holds
-module _ (plan : Plan) (wire : Wire) (books : List Stock) where
-  pub against_count : (length books ≡ plan.rooms → ⊥) → Some BookCount ≡ open_reason plan wire books
-  against_count other = let f : eqb (length books) plan.rooms ≡ false = ne_eqb _ _ other in rw f
-
-  module _ (count : length books ≡ plan.rooms) where
-    as_many : eqb (length books) plan.rooms ≡ true
-    as_many = eq-eqb _ _ count
-
-    pub against_books : all_equal books ≡ false → Some UnequalBooks ≡ open_reason plan wire books
-    against_books f = rw (as_many, f)
-
-    module _ (same : all_equal books ≡ true) where
-      pub against_wire : (length wire.posts ≡ 0 → ⊥) → Some UsedWire ≡ open_reason plan wire books
-      against_wire some = let f : eqb (length wire.posts) 0 ≡ false = ne_eqb _ _ some in rw (as_many, same, f)
-
-      pub against_none : length wire.posts ≡ 0 → None ≡ open_reason plan wire books
-      against_none none = let t : eqb (length wire.posts) 0 ≡ true = eq-eqb _ _ none in rw (as_many, same, t)
 
 -- no reason against: each test comes out well
 check : (t : Bool) (why : WhyUnopened) (rest : Rattle.std.specs.declared.option.Option.Option WhyUnopened) → cond (not t) (Some why) rest ≡ None → (t ≡ true) × (rest ≡ None)

@@ -8,22 +8,15 @@ use stock::Book;
 fn hold_the_same<B: Book>(left: &B, right: &B) -> bool
     ensures value { result ≡ same_amounts (B.Book.holds left.now) (B.Book.holds right.now) }
 {
-    for base in 0..32u8 {
-        if left.amount(base).unwrap() != right.amount(base).unwrap() {
-            return false;
-        }
-    }
-    true
+    (0..32u8).all(|base| left.amount(base) == right.amount(base))
 }
 
 // Whether all books hold the amounts of the first.
 pub(crate) fn are_equal<B: Book>(books: &[B]) -> bool
     ensures value { result ≡ all_equal (map B.Book.holds books.now) }
 {
-    for i in 0..books.len() {
-        if !hold_the_same(&books[i], &books[0]) {
-            return false;
-        }
-    }
-    true
+    let Some(first) = books.first() else {
+        return true;
+    };
+    books.iter().all(|book| hold_the_same(book, first))
 }

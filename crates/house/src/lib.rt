@@ -13,6 +13,7 @@ pub mod performance;
 mod performing;
 mod questions;
 mod room_calls;
+mod room_places;
 pub mod unopened;
 mod wire_calls;
 

@@ -19,7 +19,7 @@ impl HouseMemory {
     pub fn reserve(heap: Global) -> Result<HouseMemory, AllocError> {
         let rooms = Vec::with_capacity(heap, 8)?;
         let mut memories = Vec::with_capacity(heap, 8)?;
-        for _room in 0..8u8 {
+        for _ in 0..8u8 {
             memories.push_reserved(RoomMemory::reserve(heap)?);
         }
         Ok(HouseMemory { rooms, memories })

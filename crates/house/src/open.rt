@@ -1,5 +1,6 @@
 // Opening a house.
 ghost use Rattle.std.specs.Prelude.{◌≡◌, map, vec_len};
+ghost use Rattle.std.specs.Result.{result_err};
 ghost use Rattle.lists.specs.Words.{rising};
 ghost use Rattle.plan.specs.Plans.{plan_of};
 ghost use Rattle.rooms.specs.Views.{room_of};
@@ -26,7 +27,7 @@ impl<W: Wire, B: Book> House<W, B> {
     ) -> Result<House<W, B>, Unopened<W, B>>
         ensures cases { Opening W.Wire.meaning B.Book.holds plan wire books memory result }
     {
-        if let Some(why) = reason_against(&plan, &wire, books.as_slice()) {
+        if let Err(why) = check_opening(&plan, &wire, books.as_slice()) {
             return Err(Unopened {
                 plan,
                 wire,
@@ -45,20 +46,24 @@ impl<W: Wire, B: Book> House<W, B> {
     }
 }
 
-// Why a house is not opened with these; none where it is.
-fn reason_against<W: Wire, B: Book>(plan: &SealedPlan, wire: &W, books: &[B]) -> Option<WhyUnopened>
-    ensures value { result ≡ open_reason (plan_of plan.now) (W.Wire.meaning wire.now) (map B.Book.holds books.now) }
+// Refuses an opening that has a reason against it.
+fn check_opening<W: Wire, B: Book>(
+    plan: &SealedPlan,
+    wire: &W,
+    books: &[B],
+) -> Result<(), WhyUnopened>
+    ensures refused { result_err result ≡ open_reason (plan_of plan.now) (W.Wire.meaning wire.now) (map B.Book.holds books.now) }
 {
     if books.len() != plan.rooms() as usize {
-        return Some(WhyUnopened::BookCount);
+        return Err(WhyUnopened::BookCount);
     }
     if !are_equal(books) {
-        return Some(WhyUnopened::UnequalBooks);
+        return Err(WhyUnopened::UnequalBooks);
     }
     if wire.posted() != 0 {
-        return Some(WhyUnopened::UsedWire);
+        return Err(WhyUnopened::UsedWire);
     }
-    None
+    Ok(())
 }
 
 // Opens the rooms of a plan, by their numbers.
@@ -72,12 +77,8 @@ fn open_rooms(plan: &SealedPlan, memory: HouseMemory) -> Vec<Room>
         mut memories,
     } = memory;
     for number in 0..plan.rooms() {
-        let Some(memory) = memories.pop() else {
-            unreachable()
-        };
-        let Ok(room) = Room::open(plan, number, memory) else {
-            unreachable()
-        };
+        let memory = memories.pop().unwrap();
+        let room = Room::open(plan, number, memory).unwrap();
         rooms.push_reserved(room);
     }
     rooms

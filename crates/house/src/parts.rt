@@ -28,20 +28,14 @@ impl<W: Wire, B: Book> House<W, B> {
     pub fn room(&self, room: u8) -> Option<&Room>
         ensures cases { MatchOption result ((plan_of self.now.plan).rooms ≤ room) (λ x. x.now ≡ slice_index_or self.now.rooms.items room x.now) }
     {
-        if room >= self.plan.rooms() {
-            return None;
-        }
-        Some(&self.rooms[room as usize])
+        self.rooms.get(room as usize)
     }
 
     // A room's book; none where the plan has no such room.
     pub fn book(&self, room: u8) -> Option<&B>
         ensures cases { MatchOption result ((plan_of self.now.plan).rooms ≤ room) (λ x. x.now ≡ slice_index_or self.now.books.items room x.now) }
     {
-        if room >= self.plan.rooms() {
-            return None;
-        }
-        Some(&self.books[room as usize])
+        self.books.get(room as usize)
     }
 
     // Closes the house, and hands back what it was opened with.
@@ -51,8 +45,8 @@ impl<W: Wire, B: Book> House<W, B> {
         let House {
             plan,
             wire,
-            rooms: _,
             books,
+            ..
         } = self;
         Closed { plan, wire, books }
     }

@@ -37,21 +37,19 @@ pub fn perform<W: Wire + Drop, B: Book + Drop>(
             make_all(&mut house, calls, &mut answers);
             Ok(Performance { house, answers })
         }
-        Err(unopened) => {
-            let Unopened {
+        Err(
+            Unopened {
                 plan,
-                wire: _,
                 books,
-                memory: _,
                 why,
-            } = unopened;
-            Err(Unperformed {
-                plan,
-                books,
-                calls,
-                why: WhyUnperformed::Unopened(why),
-            })
-        }
+                ..
+            },
+        ) => Err(Unperformed {
+            plan,
+            books,
+            calls,
+            why: WhyUnperformed::Unopened(why),
+        }),
     }
 }
 
@@ -77,7 +75,6 @@ fn make_all<W: Wire, B: Book>(house: &mut House<W, B>, calls: Vec<Call>, answers
     ensures after { MakesAll (parts_of W.Wire.meaning B.Book.holds house.old) calls.items answers.new.items (parts_of W.Wire.meaning B.Book.holds house.new) }
 {
     for call in calls {
-        let answer = house.call(call);
-        answers.push_reserved(answer);
+        answers.push_reserved(house.call(call));
     }
 }

@@ -13,19 +13,15 @@ impl<W: Wire, B: Book> House<W, B> {
     pub fn amount(&self, room: u8, base: u8) -> Result<u32, Refusal>
         ensures steps { Calling W.Wire.meaning B.Book.holds self.now (amount room base) (answered as_amount result) self.now }
     {
-        if room >= self.plan.rooms() {
-            return Err(Refusal::OutOfRange);
-        }
-        self.books[room as usize].amount(base)
+        let place = self.place_of(room)?;
+        self.books[place].amount(base)
     }
 
     // Some batch that a room would run; none exactly where it would run none.
     pub fn pick(&self, room: u8) -> Result<Option<u16>, Refusal>
         ensures steps { Calling W.Wire.meaning B.Book.holds self.now (pick room) (answered as_picked result) self.now }
     {
-        if room >= self.plan.rooms() {
-            return Err(Refusal::OutOfRange);
-        }
-        Ok(self.rooms[room as usize].pick(&self.plan, &self.wire))
+        let place = self.place_of(room)?;
+        Ok(self.rooms[place].pick(&self.plan, &self.wire))
     }
 }

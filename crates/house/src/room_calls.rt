@@ -17,10 +17,8 @@ impl<W: Wire, B: Book> House<W, B> {
         ensures same { OnErr result (self.new ≡ self.old) }
         ensures choice { W.Wire.chooses self.old.wire (choice_of (hear room) (answered as_batch result)) self.new.wire }
     {
-        if room >= self.plan.rooms() {
-            return Err(Refusal::OutOfRange);
-        }
-        self.rooms[room as usize].hear(&mut self.wire)
+        let place = self.place_of(room)?;
+        self.rooms[place].hear(&mut self.wire)
     }
 
     // A room settles its next definitive batch. Answers that batch, how many went ahead of it, and how many marks were thrown.
@@ -29,10 +27,8 @@ impl<W: Wire, B: Book> House<W, B> {
         ensures same { OnErr result (self.new ≡ self.old) }
         ensures choice { W.Wire.chooses self.old.wire (choice_of (settle room) (answered as_settled result)) self.new.wire }
     {
-        if room >= self.plan.rooms() {
-            return Err(Refusal::OutOfRange);
-        }
-        self.rooms[room as usize].settle(&self.plan, &mut self.wire)
+        let place = self.place_of(room)?;
+        self.rooms[place].settle(&self.plan, &mut self.wire)
     }
 
     // A room runs a batch, and marks it with the result. Answers the outcome, and the place of the step that failed, counted
@@ -42,10 +38,8 @@ impl<W: Wire, B: Book> House<W, B> {
         ensures same { OnErr result (self.new ≡ self.old) }
         ensures choice { W.Wire.chooses self.old.wire (choice_of (run room batch) (answered as_ran result)) self.new.wire }
     {
-        if room >= self.plan.rooms() {
-            return Err(Refusal::OutOfRange);
-        }
-        self.rooms[room as usize].run(&self.plan, &self.wire, &self.books[room as usize], batch)
+        let place = self.place_of(room)?;
+        self.rooms[place].run(&self.plan, &self.wire, &self.books[place], batch)
     }
 
     // A room releases a batch: announces its result, and writes it to its book.
@@ -54,15 +48,8 @@ impl<W: Wire, B: Book> House<W, B> {
         ensures same { OnErr result (self.new ≡ self.old) }
         ensures choice { W.Wire.chooses self.old.wire (choice_of (release room batch) (answered as_done result)) self.new.wire }
     {
-        if room >= self.plan.rooms() {
-            return Err(Refusal::OutOfRange);
-        }
-        self.rooms[room as usize].release(
-            &self.plan,
-            &mut self.wire,
-            &mut self.books[room as usize],
-            batch,
-        )
+        let place = self.place_of(room)?;
+        self.rooms[place].release(&self.plan, &mut self.wire, &mut self.books[place], batch)
     }
 
     // A room installs a sender's next announcement, and writes it to its book. Answers the batch.
@@ -71,14 +58,7 @@ impl<W: Wire, B: Book> House<W, B> {
         ensures same { OnErr result (self.new ≡ self.old) }
         ensures choice { W.Wire.chooses self.old.wire (choice_of (install room sender) (answered as_batch result)) self.new.wire }
     {
-        if room >= self.plan.rooms() {
-            return Err(Refusal::OutOfRange);
-        }
-        self.rooms[room as usize].install(
-            &self.plan,
-            &mut self.wire,
-            &mut self.books[room as usize],
-            sender,
-        )
+        let place = self.place_of(room)?;
+        self.rooms[place].install(&self.plan, &mut self.wire, &mut self.books[place], sender)
     }
 }

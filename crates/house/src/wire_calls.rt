@@ -18,12 +18,8 @@ impl<W: Wire, B: Book> House<W, B> {
         ensures same { OnErr result (self.new ≡ self.old) }
         ensures choice { W.Wire.chooses self.old.wire (choice_of (post room (batch_of batch)) (answered as_batch result)) self.new.wire }
     {
-        if room >= self.plan.rooms() {
-            return Err(Refusal::OutOfRange);
-        }
-        if self.plan.master(batch.set()).is_none() {
-            return Err(Refusal::SetUnplanned);
-        }
+        self.place_of(room)?;
+        self.plan.master(batch.set()).ok_or(Refusal::SetUnplanned)?;
         self.wire.post(room, batch)
     }
 

@@ -1,12 +1,21 @@
-use Rattle.std.proofs.Common.{sym}
-use Rattle.house.proofs.Equals.{one_same, one_other, all_same}
+use Rattle.std.proofs.Common.{◌≡◌, ap, sym, ◌∙◌, map, rules, get_or}
+use borrow.Author.Tests.{tests}
+use Rattle.std.proofs.lemmas.Iterator.{YieldsList-from_slice}
+use Rattle.std.proofs.lemmas.Iterator.Search.{all_from_yields_List}
+use Rattle.std.proofs.lemmas.List.Folds.{list_all-map}
+use Rattle.lists.specs.Words.{all}
+use Rattle.stock.specs.Stock.{Stock}
+use Rattle.house.specs.Openings.{no_book, same_amounts}
+use Rattle.house.proofs.Equals.{first_held}
 use Rattle.house.proofs.books.are_equal.Goals as goal
 
-pub returns-then-not-hold_the_same : goal.returns-then-not-hold_the_same
-returns-then-not-hold_the_same g c = record { value = sym (one_other g.B.Book.holds c.args.books.now c.loop-i.i c.loop-i-test.true _ _ c.index-books-i.is c.index-books-0.is (sym c.if-not-hold_the_same.ensures.value)) }
-
-pub loop-i-preserved : goal.loop-i-preserved
-loop-i-preserved g c = one_same g.B.Book.holds c.args.books.now c.loop-i.i c.loop-i-test.true _ _ c.index-books-i.is c.index-books-0.is (sym c.if-not-hold_the_same.ensures.value) c.loop-i.invariant
-
 pub returns : goal.returns
-returns g c = record { value = sym (all_same g.B.Book.holds c.args.books.now c.loop-i.i c.loop-i-test.false c.loop-i.invariant) }
+returns g c =
+    let holds = g.B.Book.holds in
+    let books = c.args.books.now in
+    let first = c.in-Some.first.now in
+    let is : holds first ≡ get_or (map holds books) 0 no_book = first_held holds no_book books first c.in-Some.ensures.value in
+    record {
+      value = all_from_yields_List (λ b. same_amounts (holds b) (holds first)) _ _ c.all.result c.all.ensures.ran (YieldsList-from_slice books cc) (λ x b q k. search (rules, tests))
+          ∙ sym (list_all-map (λ b. same_amounts b (holds first)) holds books) ∙ ap (λ (s : Stock). all (λ b. same_amounts b s) (map holds books)) is;
+    }

@@ -1,13 +1,13 @@
-use Rattle.std.proofs.Common.{sym, ◌∙◌, arith}
-use Rattle.house.proofs.Equals.{same_true, same_false, told}
+use Rattle.std.proofs.Common.{◌||◌, ◌∙◌, refl, ltb, eqb, rules, Bool, ℕ}
+use borrow.Author.Tests.{tests}
+use Rattle.std.proofs.lemmas.Iterator.{YieldsList-from_range}
+use Rattle.std.proofs.lemmas.Iterator.Search.{all_from_yields_List}
+use Rattle.house.proofs.Equals.{told_alike}
 use Rattle.house.proofs.books.hold_the_same.Goals as goal
 
-pub returns-then-unwrap : goal.returns-then-unwrap
-returns-then-unwrap g c =
-    let base = c.loop-base.base in
-    let left = told (g.B.Book.holds c.args.left.now) base _ _ c.loop-base-test.true c.amount.ensures c.unwrap.ensures in
-    let right = told (g.B.Book.holds c.args.right.now) base _ _ c.loop-base-test.true c.amount-in-loop-base.ensures c.unwrap-in-loop-base.ensures in
-    record { value = sym (same_false _ _ base c.loop-base-test.true (λ e. c.if-unwrap.true (left ∙ e ∙ sym right))) }
-
 pub returns : goal.returns
-returns g c = record { value = sym (same_true _ _ (λ x low. c.loop-base.invariant x (omega (arith, low, c.loop-base-test.false)))) }
+returns g c =
+    let a = g.B.Book.holds c.args.left.now in
+    let b = g.B.Book.holds c.args.right.now in
+    let alike : ℕ → Bool = λ x. ltb 31 x || eqb (a.amounts x) (b.amounts x) in
+    record { value = all_from_yields_List alike _ _ c.all.result c.all.ensures.ran (YieldsList-from_range 0 32 32 refl refl) (λ x r q k. search (rules, tests)) ∙ told_alike a b }

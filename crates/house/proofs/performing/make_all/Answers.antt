@@ -21,7 +21,7 @@ loop-call-preserved g c =
       tt,
       tt,
       rw pushed.len next.1,
-      rw (pushed.len, pushed.items, next.0) (one_more_made _ _ _ (take n calls) (vec_items c.loop-call.answers) c.in-Some.call _ inv.3 c.call-answer.ensures.steps),
+      rw (pushed.len, pushed.items, next.0) (one_more_made _ _ _ (take n calls) (vec_items c.loop-call.answers) c.in-Some.call _ inv.3 c.call.ensures.steps),
       omega (arith, inv.4, pushed.capacity),
     )
 

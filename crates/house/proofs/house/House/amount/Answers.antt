@@ -1,14 +1,18 @@
-use Rattle.std.proofs.Common.{◌<◌, refl, arith}
+use Rattle.std.proofs.Common.{◌≡◌, ◌<◌, Err, refl, rules}
+use Rattle.refusals.specs.declared.refusal.Refusal.TheVariants.{OutOfRange}
 use Rattle.plan.specs.Plans.{plan_of}
 use Rattle.house.proofs.Places.{book_is}
 use Rattle.house.proofs.Steps.{outside, amount-steps}
 use Rattle.house.proofs.house.House.amount.Goals as goal
 
-pub returns-then-room-rooms : goal.returns-then-room-rooms
-returns-then-room-rooms g c = record { steps = outside _ c.args.room _ _ (λ _. refl) (omega arith) }
+pub returns-in_err-place : goal.returns-in_err-place
+returns-in_err-place g c =
+    let e : c.from_residual.result ≡ Err OutOfRange = search rules in
+    record { steps = rw e (outside _ c.args.room _ _ (λ _. refl) c.in_err-place.ensures.cases.1) }
 
 pub returns : goal.returns
 returns g c =
     let h = c.args.self.now in
-    let low : c.args.room < (plan_of h.plan).rooms = omega arith in
-    record { steps = amount-steps _ c.args.room low _ (book_is g.W.Wire.meaning g.B.Book.holds h c.args.room low _ c.index.ensures) c.args.base _ c.amount.ensures }
+    let k = c.in_ok-place.place in
+    let low : k < (plan_of h.plan).rooms = rw c.in_ok-place.ensures.cases.0 c.in_ok-place.ensures.cases.1 in
+    record { steps = rw (← c.in_ok-place.ensures.cases.0) (amount-steps _ k low _ (book_is g.W.Wire.meaning g.B.Book.holds h k low _ c.index.ensures) c.args.base _ c.amount.ensures) }

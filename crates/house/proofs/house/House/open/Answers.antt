@@ -9,7 +9,7 @@ pub invariant_of-result : goal.invariant_of-result
 invariant_of-result g c =
     let slice = c.as_slice.ensures.value in
     let none : open_reason (plan_of c.args.plan) (g.W.Wire.meaning c.args.wire) (map g.B.Book.holds (vec_items c.args.books)) ≡ None =
-    ap (λ (l : List g.row.B.Denot). open_reason (plan_of c.args.plan) (g.W.Wire.meaning c.args.wire) (map g.B.Book.holds l)) (sym slice) ∙ sym c.in_default.ensures.value in
+    ap (λ (l : List g.row.B.Denot). open_reason (plan_of c.args.plan) (g.W.Wire.meaning c.args.wire) (map g.B.Book.holds l)) (sym slice) ∙ sym c.in_default.ensures.refused in
     record {
       roomed = c.open_rooms-rooms.ensures.len;
       numbered = c.open_rooms-rooms.ensures.numbered;
@@ -20,7 +20,7 @@ pub returns : goal.returns
 returns g c =
     let slice = c.as_slice.ensures.value in
     let none : open_reason (plan_of c.args.plan) (g.W.Wire.meaning c.args.wire) (map g.B.Book.holds (vec_items c.args.books)) ≡ None =
-    ap (λ (l : List g.row.B.Denot). open_reason (plan_of c.args.plan) (g.W.Wire.meaning c.args.wire) (map g.B.Book.holds l)) (sym slice) ∙ sym c.in_default.ensures.value in
+    ap (λ (l : List g.row.B.Denot). open_reason (plan_of c.args.plan) (g.W.Wire.meaning c.args.wire) (map g.B.Book.holds l)) (sym slice) ∙ sym c.in_default.ensures.refused in
     record {
       cases = record {
         taken = none;

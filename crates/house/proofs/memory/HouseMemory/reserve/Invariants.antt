@@ -1,5 +1,5 @@
 use Rattle.std.proofs.Common.{◌≡◌, ◌≤◌, vec_len, vec_capacity}
 use Rattle.house.proofs.memory.HouseMemory.reserve.Given as goal
 
-abbrev pub invariant-loop-room : goal.invariant-loop-room
-invariant-loop-room l = (vec_len l.memories ≡ l._room) × (8 ≤ vec_capacity l.memories)
+abbrev pub invariant-loop : goal.invariant-loop
+invariant-loop l = (vec_len l.memories ≡ l.counter) × (8 ≤ vec_capacity l.memories)
