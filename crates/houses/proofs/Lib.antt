@@ -1,0 +1,3 @@
+mod Uses
+mod News
+mod Sames
