@@ -1,8 +1,10 @@
 -- What it says of a call that no cause holds against it: none of its tests holds, from the first on.
-use Rattle.std.proofs.Common.{◌≡◌, ℕ, zero, suc, ◌<◌, Bool, true, false, cond, not, ◌||◌, eqb, ltb, leb, List, [], ◌∷◌, length, take, is_some, Some, None, Ok, Err, vec_items, Option, refl, inl, inr, arith}
-use Rattle.std.proofs.lemmas.Bool.{both_ways, not-false, and_parts, or_cases, or_from, or_parts, ltb-true, leb-true, leb-false, le-ltb}
+use Rattle.std.proofs.Common.{◌≡◌, ℕ, zero, suc, ◌<◌, Bool, true, false, cond, not, ◌||◌, eqb, ltb, leb, List, [], ◌∷◌, ◌++◌, length, take, is_ok, Some, None, Ok, Err, Option, refl, ap, ◌∙◌, inl, inr, arith}
+use Rattle.std.specs.List.{find}
+use Rattle.std.proofs.lemmas.Option.{same_Some}
+use Rattle.std.proofs.lemmas.Bool.{cases_Bool, both_ways, eqb-true, not-false, and_parts, or_cases, or_from, or_parts, ltb-true, leb-true, leb-false, le-ltb}
 use Rattle.lists.specs.Words.{member, any, all}
-use Rattle.lists.proofs.Members.{all_at, all_get_d}
+use Rattle.lists.proofs.Members.{all_at, all_get_d, member-append}
 use Rattle.refusals.specs.Causes.{answer}
 use Rattle.refusals.specs.declared.refusal.Refusal.{Refusal}
 use Rattle.sets.specs.Sets.{size, sized}
@@ -13,10 +15,11 @@ use Rattle.wire.specs.Wire.{Wire}
 use Rattle.wire.specs.Calls.{no_room, announced_before, amounts_small, announcement_waits, no_announcement, next_announcement, announce_cause, announcement_cause, Sound}
 use Rattle.wire.specs.declared.announcement.Announcement.{Announcement}
 use Rattle.order.specs.Works.{Works}
-use Rattle.agreement.specs.Rooms.{Room, heard_here, is_marked, run_cause, too_few, release_cause, turn_come, install_cause}
+use Rattle.agreement.specs.Rooms.{Room, heard_here, is_marked, run_cause, too_few, release_cause, turn_come, install_cause, Picks}
 use Rattle.rooms.specs.declared.room.Room.{Room as CodeRoom}
 use Rattle.rooms.specs.Calls.{or_else}
 use Rattle.rooms.specs.Records.{known}
+use Rattle.rooms.specs.Lists.{numbers_of}
 use Rattle.rooms.specs.Views.{room_of}
 use Rattle.rooms.proofs.Blanks.{rooms-eight}
 
@@ -25,29 +28,55 @@ pub none-parts : (test : Bool) (e : Refusal) (rest : Option Refusal) → cond te
 none-parts true e rest h = let z : ◌≡◌ {A = ℕ} 0 1 = cc in absurd (omega arith)
 none-parts false e rest h = (refl, h)
 
-pub some-none : (cause : Option Refusal) → is_some cause ≡ true → cause ≡ None → ⊥
-some-none None h e = both_ways false refl h
-some-none (Some x) h e = let z : ◌≡◌ {A = ℕ} 0 1 = cc in omega arith
-
 -- what the room has heard it has a record for
 pub heard-known : (r : CodeRoom) (b : ℕ) → heard_here (room_of r) b ≡ true → b < 256
-heard-known r b h = ltb-true b 256 (elim (or_cases (member b (vec_items r.waiting)) _ h) [
-  | inl t ↦ all_at known (vec_items r.waiting) r.waiting_known b t
-  | inr t ↦ elim (or_cases (member b (vec_items r.settled)) _ t) [
-    | inl u ↦ all_at known (vec_items r.settled) r.settled_known b u
-    | inr u ↦ all_at known (vec_items r.installed) r.installed_known b u
+heard-known r b h = ltb-true b 256 (elim (or_cases (member b (numbers_of r.waiting)) _ h) [
+  | inl t ↦ all_at known (numbers_of r.waiting) r.waiting.known b t
+  | inr t ↦ elim (or_cases (member b (numbers_of r.settled)) _ t) [
+    | inl u ↦ all_at known (numbers_of r.settled) r.settled.known b u
+    | inr u ↦ all_at known (numbers_of r.installed) r.installed.known b u
   ]
 ])
 
 -- and so for what stands in a line
-pub stood_known : (r : CodeRoom) (b : ℕ) → (member b (vec_items r.waiting) || member b (vec_items r.settled)) ≡ true → known b ≡ true
-stood_known r b h = elim (or_cases (member b (vec_items r.waiting)) (member b (vec_items r.settled)) h) [
-  | inl t ↦ all_at known (vec_items r.waiting) r.waiting_known b t
-  | inr t ↦ all_at known (vec_items r.settled) r.settled_known b t
+pub stood_known : (r : CodeRoom) (b : ℕ) → (member b (numbers_of r.waiting) || member b (numbers_of r.settled)) ≡ true → known b ≡ true
+stood_known r b h = elim (or_cases (member b (numbers_of r.waiting)) (member b (numbers_of r.settled)) h) [
+  | inl t ↦ all_at known (numbers_of r.waiting) r.waiting.known b t
+  | inr t ↦ all_at known (numbers_of r.settled) r.settled.known b t
 ]
 
 pub run-heard : (w : Works) (k : ℕ) (r : Room) (b : ℕ) → run_cause w k r b ≡ None → heard_here r b ≡ true
 run-heard w k r b h = not-false (heard_here r b) (none-parts _ _ _ h).0
+
+-- whether a batch may be run, and what a search of the lines for one finds
+abbrev pub may_run : Works → ℕ → Room → ℕ → Bool
+may_run w k r b = is_ok (answer {A = Unit {0}} (run_cause w k r b) tt)
+
+found_passes : (p : ℕ → Bool) (l : List ℕ) (x : ℕ) → Some x ≡ find p l → p x ≡ true
+found_passes p [] x e = absurd (cc)
+found_passes p (y ∷ l) x e = elim (cases_Bool (p y)) [ inl t ↦ let z : Some x ≡ Some y = rw t at e in rw (same_Some x y z) t | inr f ↦ found_passes p l x (rw f at e) ]
+
+none_passes : (p : ℕ → Bool) (l : List ℕ) → None ≡ find p l → (x : ℕ) → member x l ≡ true → p x ≡ false
+none_passes p [] e x m = absurd (both_ways false refl m)
+none_passes p (y ∷ l) e x m = elim (cases_Bool (p y)) [
+  | inl t ↦ let z : None ≡ Some y = rw t at e in absurd (cc)
+  | inr f ↦ elim (or_cases (eqb x y) (member x l) m) [ inl h ↦ rw (eqb-true x y h) f | inr h ↦ none_passes p l (rw f at e) x h ]
+]
+
+pub picked : (w : Works) (k : ℕ) (r : Room) (found : Option ℕ) → found ≡ find (may_run w k r) (r.settled ++ r.waiting) → Picks w k r found
+picked w k r None is = λ b e.
+    let heard = none-parts (not (heard_here r b)) _ _ e in
+    let installed = (none-parts (member b r.installed) _ _ (none-parts (not (eqb (w.master b) k)) _ _ heard.1).1).0 in
+    let there : member b (r.settled ++ r.waiting) ≡ true = member-append b r.settled r.waiting ∙ lined (member b r.waiting) (member b r.settled) (member b r.installed) (not-false (heard_here r b) heard.0) installed in
+    both_ways (may_run w k r b) (none_passes (may_run w k r) (r.settled ++ r.waiting) is b there) (ap (λ (o : Option Refusal). is_ok (answer {A = Unit {0}} o tt)) e)
+  where
+    lined : (x y z : Bool) → (x || (y || z)) ≡ true → z ≡ false → (y || x) ≡ true
+    lined x y z h e = grind arith
+picked w k r (Some b) is = may (run_cause w k r b) (found_passes (may_run w k r) (r.settled ++ r.waiting) b is)
+  where
+    may : (o : Option Refusal) → is_ok (answer {A = Unit {0}} o tt) ≡ true → o ≡ None
+    may None h = refl
+    may (Some e) h = absurd (both_ways false refl h)
 
 -- what a call answers tells its cause
 module _ {A : Type 0} (cause : Option Refusal) (due : A) where

@@ -1,7 +1,8 @@
 -- Who is first in lines, by one pass: a batch leads the line of each base of a set exactly where nothing before it in the
 -- lists has such a base and it has them all. By induction over the lists, which are one after the other.
-use Rattle.std.proofs.Common.{◌≡◌, ℕ, ◌+◌, ◌<◌, Bool, true, false, not, ◌&&◌, ◌||◌, eqb, leb, ◌⊎◌, List, [], ◌∷◌, ◌++◌, length, get_or, drop, Some, None, unwrap_or, sym, refl, ap, ◌∙◌, inl, inr, arith}
-use Rattle.std.proofs.lemmas.List.{at_drop_more}
+use Rattle.std.proofs.Common.{◌≡◌, ℕ, Bool, true, false, not, ◌&&◌, ◌||◌, eqb, leb, ◌⊎◌, List, [], ◌∷◌, ◌++◌, length, Some, Option, sym, refl, ap, ◌∙◌, inl, inr, arith}
+use Rattle.std.specs.List.{find}
+use Rattle.std.specs.Option.{option_eq}
 use Rattle.std.proofs.lemmas.Bool.{cases_Bool, both_ways, eqb-true, and_right}
 use Rattle.lists.specs.Words.{member, all, keep}
 use Rattle.lists.proofs.Members.{member-head, member-tail, all_at}
@@ -11,7 +12,6 @@ use Rattle.sets.proofs.Bases.{member-bases, base_below}
 use Rattle.sets.proofs.Members.{shares_base_lem, shared_base}
 use Rattle.order.specs.Works.{Works, set_of}
 use Rattle.agreement.specs.Rooms.{Room, leads, first_in_lines, first_before}
-use Rattle.rooms.specs.Lines.{told_first}
 
 all_same : (f g : ℕ → Bool) (l : List ℕ) → ((x : ℕ) → member x l ≡ true → f x ≡ g x) → all f l ≡ all g l
 all_same f g [] h = refl
@@ -68,7 +68,7 @@ module _ (w : Works) (b q : ℕ) where
   ]
 
   -- first in the line of each base
-  abbrev all_led : List ℕ → Bool
+  abbrev pub all_led : List ℕ → Bool
   all_led l = all (λ x. leads q (left x l)) (bases (set_of w b))
 
   led_here : (c : ℕ) (l : List ℕ) → eqb c q ≡ true → all_led (c ∷ l) ≡ within (set_of w b) (set_of w q)
@@ -85,15 +85,19 @@ module _ (w : Works) (b q : ℕ) where
   led_on : (c : ℕ) (l : List ℕ) → ((x : ℕ) → member x (bases (set_of w b)) ≡ true → (of_base x c ≡ false) ⊎ (stays c ≡ false)) → all_led (c ∷ l) ≡ all_led l
   led_on c l h = all_same (λ x. leads q (left x (c ∷ l))) (λ x. leads q (left x l)) (bases (set_of w b)) (λ x m. ap (leads q) (skip x c l (h x m)))
 
-  pub told_is : sized (set_of w b) ≡ true → (l : List ℕ) → all_led l ≡ unwrap_or (told_first w b q l) false
-  told_is some [] = let z = some_base (bases (set_of w b)) some in all_false (λ x. leads q (left x [])) (bases (set_of w b)) z.0 z.1 refl
-  told_is some (c ∷ cs) = elim (cases_Bool (eqb c q)) [
-    | inl t ↦ led_here c cs t ∙ rw t
+  -- the leader, or what stands before it: another batch that has such a base
+  abbrev pub decides : ℕ → Bool
+  decides c = eqb c q || (not (eqb c b) && shares (set_of w c) (set_of w b))
+
+  led_first : sized (set_of w b) ≡ true → (l : List ℕ) → all_led l ≡ (option_eq eqb (find decides l) (Some q) && within (set_of w b) (set_of w q))
+  led_first some [] = let z = some_base (bases (set_of w b)) some in all_false (λ x. leads q (left x [])) (bases (set_of w b)) z.0 z.1 refl
+  led_first some (c ∷ cs) = elim (cases_Bool (eqb c q)) [
+    | inl t ↦ led_here c cs t ∙ rw (t, t)
     | inr f ↦ elim (cases_Bool (eqb c b)) [
-      | inl u ↦ led_on c cs (λ x m. inr (rw (f, u))) ∙ told_is some cs ∙ rw (f, u)
+      | inl u ↦ led_on c cs (λ x m. inr (rw (f, u))) ∙ led_first some cs ∙ rw (f, u)
       | inr n ↦ elim (cases_Bool (shares (set_of w c) (set_of w b))) [
-        | inl s ↦ led_blocked c cs f n s ∙ rw (f, n, s)
-        | inr s ↦ led_on c cs (λ x m. inl (apart c x m s)) ∙ told_is some cs ∙ rw (f, n, s)
+        | inl s ↦ led_blocked c cs f n s ∙ rw (f, n, s, f)
+        | inr s ↦ led_on c cs (λ x m. inl (apart c x m s)) ∙ led_first some cs ∙ rw (f, n, s)
       ]
     ]
   ]
@@ -101,37 +105,12 @@ module _ (w : Works) (b q : ℕ) where
       apart : (c x : ℕ) → member x (bases (set_of w b)) ≡ true → shares (set_of w c) (set_of w b) ≡ false → of_base x c ≡ false
       apart c x m s = elim (cases_Bool (of_base x c)) [ inr n ↦ n | inl t ↦ absurd (both_ways (shares (set_of w c) (set_of w b)) s (shares_base_lem (set_of w c) (set_of w b) x t m)) ]
 
-  -- one list after the other
-  pub told-left : (xs ys : List ℕ) (v : Bool) → told_first w b q xs ≡ Some v → told_first w b q (xs ++ ys) ≡ Some v
-  told-left [] ys v e = let z : ◌≡◌ {A = ℕ} 0 1 = cc in absurd (omega arith)
-  told-left (c ∷ cs) ys v e = elim (cases_Bool (eqb c q)) [
-    | inl t ↦ rw t (rw t at e)
-    | inr f ↦ elim (cases_Bool (not (eqb c b) && shares (set_of w c) (set_of w b))) [
-      | inl s ↦ rw (f, s) (rw (f, s) at e)
-      | inr s ↦ rw (f, s) (told-left cs ys v (rw (f, s) at e))
-    ]
-  ]
+  -- so told by what a search of the lines finds
+  pub led_told : sized (set_of w b) ≡ true → (l : List ℕ) (found : Option ℕ) → found ≡ find decides l → within (set_of w b) (set_of w q) ≡ true → option_eq eqb found (Some q) ≡ all_led l
+  led_told some l found is has_all = let e = led_first some l in rw is (grind arith)
 
-  pub told-right : (xs ys : List ℕ) → told_first w b q xs ≡ None → told_first w b q (xs ++ ys) ≡ told_first w b q ys
-  told-right [] ys e = refl
-  told-right (c ∷ cs) ys e = elim (cases_Bool (eqb c q)) [
-    | inl t ↦ let n : Some (within (set_of w b) (set_of w q)) ≡ None = rw t at e in let z : ◌≡◌ {A = ℕ} 0 1 = cc in absurd (omega arith)
-    | inr f ↦ elim (cases_Bool (not (eqb c b) && shares (set_of w c) (set_of w b))) [
-      | inl s ↦ let n : Some false ≡ None = rw (f, s) at e in let z : ◌≡◌ {A = ℕ} 0 1 = cc in absurd (omega arith)
-      | inr s ↦ rw (f, s) (told-right cs ys (rw (f, s) at e))
-    ]
-  ]
-
-  -- a turn of the loop
-  module _ (xs : List ℕ) (i : ℕ) (h : i < length xs) where
-    pub told_here : eqb (get_or xs i 0) q ≡ true → told_first w b q (drop i xs) ≡ Some (within (set_of w b) (set_of w q))
-    told_here e = at_drop_more (told_first w b q) xs i 0 h ∙ rw e
-
-    pub told_no : eqb (get_or xs i 0) q ≡ false → (not (eqb (get_or xs i 0) b) && shares (set_of w (get_or xs i 0)) (set_of w b)) ≡ true → told_first w b q (drop i xs) ≡ Some false
-    told_no e s = at_drop_more (told_first w b q) xs i 0 h ∙ rw (e, s)
-
-    pub told_on : eqb (get_or xs i 0) q ≡ false → (not (eqb (get_or xs i 0) b) && shares (set_of w (get_or xs i 0)) (set_of w b)) ≡ false → told_first w b q (drop i xs) ≡ told_first w b q (drop (i + 1) xs)
-    told_on e s = at_drop_more (told_first w b q) xs i 0 h ∙ rw (e, s)
+  pub led-not : sized (set_of w b) ≡ true → (l : List ℕ) → within (set_of w b) (set_of w q) ≡ false → false ≡ all_led l
+  led-not some l h = let e = led_first some l in grind arith
 
 -- a batch is first in all its lines where it leads them, nothing left out
 pub first_is : (w : Works) (r : Room) (b : ℕ) → first_in_lines w r b ≡ first_before w r b b

@@ -3,7 +3,7 @@ pub mod Removals
 pub mod Blanks
 pub mod Posts
 pub mod Firsts
-pub mod Works
+pub mod Results
 pub mod Causes
 pub mod Tables
 pub mod Moves

@@ -1,21 +1,30 @@
--- A loop over a list of batches, one turn at a time: what is left of the list from a place on decides, and one turn takes
--- the element at that place off it.
-use Rattle.std.proofs.Common.{◌≡◌, ℕ, suc, ◌+◌, ◌<◌, true, List, length, get_or, drop, ◌∙◌}
-use Rattle.std.proofs.lemmas.List.{at_drop_more}
-use Rattle.std.proofs.lemmas.Bool.{eq-eqb, ne_eqb}
-use Rattle.lists.specs.Words.{member, place}
+-- A batch in a list: what a search of the list finds.
+use Rattle.std.proofs.Common.{◌≡◌, ℕ, ◌<◌, false, cond, eqb, ltb, List, [], ◌∷◌, length, Some, None, Option, MatchOption, refl, ap, ◌∙◌, inl, inr, arith}
+use Rattle.std.specs.List.{position_or_len}
+use Rattle.std.proofs.lemmas.Bool.{cases_Bool, ltb-true}
+use Rattle.lists.specs.Words.{any, member, place}
+use Rattle.lists.proofs.Places.{member-place}
 
-module _ (b : ℕ) (xs : List ℕ) (i : ℕ) (h : i < length xs) where
-  -- the batch stands at the place
-  pub member-here : b ≡ get_or xs i 0 → member b (drop i xs) ≡ true
-  member-here e = at_drop_more (member b) xs i 0 h ∙ rw (eq-eqb b (get_or xs i 0) e)
+pub turned : (a b : ℕ) → eqb a b ≡ eqb b a
+turned a b = grind arith
 
-  pub place_here : b ≡ get_or xs i 0 → place b (drop i xs) ≡ 0
-  place_here e = at_drop_more (place b) xs i 0 h ∙ rw (eq-eqb b (get_or xs i 0) e)
+pub member-any : (b : ℕ) (l : List ℕ) → any (λ y. eqb y b) l ≡ member b l
+member-any b [] = refl
+member-any b (x ∷ l) = rw (turned b x, member-any b l)
 
-  -- another one does
-  pub member_on : (b ≡ get_or xs i 0 → ⊥) → member b (drop i xs) ≡ member b (drop (i + 1) xs)
-  member_on n = at_drop_more (member b) xs i 0 h ∙ rw (ne_eqb b (get_or xs i 0) n)
+pub place-position : (b : ℕ) (l : List ℕ) → position_or_len (λ y. eqb y b) l ≡ place b l
+place-position b [] = refl
+place-position b (x ∷ l) = elim (cases_Bool (eqb x b)) [
+  | inl t ↦ rw (turned b x, t)
+  | inr f ↦ let ih = place-position b l in rw (turned b x, f) (omega (arith, ih))
+]
 
-  pub place_on : (b ≡ get_or xs i 0 → ⊥) → place b (drop i xs) ≡ suc (place b (drop (i + 1) xs))
-  place_on n = at_drop_more (place b) xs i 0 h ∙ rw (ne_eqb b (get_or xs i 0) n)
+-- the place that a search for a batch finds
+pub place_found : (b : ℕ) (l : List ℕ) (r : Option ℕ) → r ≡ cond (ltb (position_or_len (λ y. eqb y b) l) (length l)) (Some (position_or_len (λ y. eqb y b) l)) None
+    → MatchOption r (member b l ≡ false) (λ at. (at ≡ place b l) × (at < length l))
+place_found b l r e =
+    let p : r ≡ cond (ltb (place b l) (length l)) (Some (place b l)) None = e ∙ ap (λ n. cond (ltb n (length l)) (Some n) None) (place-position b l) in
+    rw p (elim (cases_Bool (ltb (place b l) (length l))) [
+      | inl t ↦ rw t (refl, ltb-true (place b l) (length l) t)
+      | inr f ↦ rw f (member-place b l ∙ f)
+    ])

@@ -11,15 +11,12 @@ use Rattle.lists.proofs.Befores.{before_self}
 use Rattle.order.specs.Works.{Works, lies_within}
 use Rattle.rooms.specs.Settles.{goes_ahead, ahead_of}
 
--- one batch before another
+-- one batch before another, by their places
 pub before-found : (l : List ℕ) (a b i j : ℕ) → i ≡ place a l → j ≡ place b l → j < length l → ltb i j ≡ before l a b
 before-found l a b i j ea eb h = let m = member-place b l in grind arith
 
-pub before-none : (l : List ℕ) (a b : ℕ) → member b l ≡ false → false ≡ before l a b
-before-none l a b h = sym (and_right _ _ h)
-
-pub before_unfound : (l : List ℕ) (a b : ℕ) → member a l ≡ false → place b l < length l → false ≡ before l a b
-before_unfound l a b h k = let m = member-place a l in grind arith
+pub before-missing : (l : List ℕ) (a b : ℕ) → member a l ≡ false → false ≡ before l a b
+before-missing l a b h = let m = member-place a l in let n = member-place b l in grind arith
 
 -- a turn of the loop that keeps what passes a test
 pub keep-turn : (p : ℕ → Bool) (xs : List ℕ) (i : ℕ) → i < length xs → keep p (drop i xs) ≡ cond (p (get_or xs i 0)) (get_or xs i 0 ∷ []) [] ++ keep p (drop (i + 1) xs)

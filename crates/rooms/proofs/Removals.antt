@@ -1,20 +1,34 @@
 -- Taking a batch out of a list: the element at a place by closing its gap and leaving the last one off, and a batch by
 -- taking out the first of it until none is left.
-use Rattle.std.proofs.Common.{◌≡◌, ℕ, suc, ◌+◌, ◌-◌, ◌<◌, ◌≤◌, Bool, true, false, cond, ◌||◌, eqb, List, [], ◌∷◌, length, take, drop, Some, None, Option, refl, ap, ◌∙◌, inl, inr, add-one, arith, MatchOption}
-use Rattle.std.proofs.lemmas.List.{take_all, length-append, length-take-le, length-drop}
-use Rattle.std.proofs.lemmas.Bool.{cases_Bool}
-use Rattle.lists.specs.Words.{member, place, without}
+use Rattle.std.proofs.Common.{◌≡◌, ℕ, zero, suc, ◌+◌, ◌-◌, ◌<◌, ◌≤◌, Bool, true, false, cond, ◌||◌, eqb, List, [], ◌∷◌, length, take, drop, Some, None, Option, refl, ap, ◌∙◌, inl, inr, add-one, arith, MatchOption}
+use Rattle.std.proofs.lemmas.List.{length-append, length-take-le, length-drop}
+use Rattle.std.proofs.lemmas.Bool.{cases_Bool, and_parts, and_from}
+use Rattle.lists.specs.Words.{all, member, place, without}
 use Rattle.lists.specs.Gaps.{without_at, closed}
-use Rattle.lists.proofs.Gaps.{take-closed}
+use Rattle.lists.proofs.Gaps.{front-closed}
+use Rattle.lists.proofs.Members.{all_append}
 
--- closing the gap at a place of the list
-pub gap_closed : (r : Option ℕ) (old new : List ℕ) (at : ℕ) → at < length old → MatchOption r ((length old ≤ at) × (new ≡ old)) (λ _. (at < length old) × (new ≡ closed at old)) → new ≡ closed at old
-gap_closed None old new at h c = absurd (omega (arith, h, c.0))
-gap_closed (Some x) old new at h c = c.1
+-- a list with the gap at a place closed, and its last element left off
+pub gap_cut : (r : Option ℕ) (old new : List ℕ) (at : ℕ) → at < length old → MatchOption r ((length old ≤ at) × (new ≡ old)) (λ _. (at < length old) × (new ≡ closed at old)) → take (length old - 1) new ≡ without_at at old
+gap_cut r old new at h c = ap (take (length old - 1)) (gap_closed r old new at h c) ∙ front-closed old at h
+  where
+    gap_closed : (r : Option ℕ) (old new : List ℕ) (at : ℕ) → at < length old → MatchOption r ((length old ≤ at) × (new ≡ old)) (λ _. (at < length old) × (new ≡ closed at old)) → new ≡ closed at old
+    gap_closed None old new at h c = absurd (omega (arith, h, c.0))
+    gap_closed (Some x) old new at h c = c.1
 
--- and then leaving the last one off
-pub take_gap : (xs : List ℕ) (at : ℕ) → at < length xs → take (length xs - 1) (closed at xs) ≡ without_at at xs
-take_gap xs at h = take-closed xs at (length xs) h (omega arith) ∙ rw (take_all (length xs) xs (omega arith))
+-- what all batches keep, those of a part keep
+pub all_drop : (f : ℕ → Bool) (n : ℕ) (l : List ℕ) → all f l ≡ true → all f (drop n l) ≡ true
+all_drop f zero l h = h
+all_drop f (suc n) [] h = refl
+all_drop f (suc n) (x ∷ l) h = all_drop f n l (and_parts (f x) (all f l) h).1
+
+pub all_left : (f : ℕ → Bool) (at : ℕ) (xs : List ℕ) → all f xs ≡ true → all f (without_at at xs) ≡ true
+all_left f at xs h = all_append f (take at xs) (drop (at + 1) xs) (front at xs h) (all_drop f (at + 1) xs h)
+  where
+    front : (n : ℕ) (l : List ℕ) → all f l ≡ true → all f (take n l) ≡ true
+    front zero l h = refl
+    front (suc n) [] h = refl
+    front (suc n) (x ∷ l) h = let z = and_parts (f x) (all f l) h in and_from (f x) (all f (take n l)) z.0 (front n l z.1)
 
 pub length-without_at : (xs : List ℕ) (at : ℕ) → at < length xs → length (without_at at xs) + 1 ≡ length xs
 length-without_at xs at h = let l : at ≤ length xs = omega arith in omega (arith, length-append (take at xs) (drop (at + 1) xs), length-take-le at xs l, length-drop (at + 1) xs)

@@ -1,6 +1,6 @@
 pub mod Records
+pub mod Lists
 pub mod Views
 pub mod Openings
-pub mod Lines
 pub mod Settles
 pub mod Calls

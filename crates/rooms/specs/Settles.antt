@@ -1,8 +1,7 @@
 -- The parts of a settle, over the lists and the table of records.
-use Rattle.std.specs.Prelude.{ℕ, Bool, cond, ◌&&◌, List, [], set, is_some, None, ◌==◌, slice_index_or, slice_set}
+use Rattle.std.specs.Prelude.{ℕ, Bool, cond, ◌&&◌, List, [], is_some, None, ◌==◌, slice_index_or, slice_set}
 use Rattle.lists.specs.Words.{before, keep}
-use Rattle.sets.specs.Sets.{shares}
-use Rattle.order.specs.Works.{Works, set_of, lies_within}
+use Rattle.order.specs.Works.{Works, lies_within, share}
 use Rattle.rooms.specs.declared.record.Record.{Record}
 use Rattle.rooms.specs.Records.{blank}
 
@@ -14,9 +13,9 @@ goes_ahead w k waiting t a = (w.master a == k && lies_within w a t) && before wa
 abbrev pub ahead_of : Works → ℕ → List ℕ → ℕ → List ℕ
 ahead_of w k waiting t = cond (w.master t == k) (keep (goes_ahead w k waiting t) waiting) []
 
--- a batch that would lose a mark for a set: it bears one, and has a base of the set
+-- a batch that would lose its mark to t: it bears one, and has a base in common with t
 abbrev pub would_lose : Works → List Record → ℕ → ℕ → Bool
-would_lose w records set a = shares (set_of w a) set && is_some (slice_index_or records a blank).mark
+would_lose w records t a = share w a t && is_some (slice_index_or records a blank).mark
 
 -- the table with a batch's mark taken off
 abbrev pub unmarked : List Record → ℕ → List Record

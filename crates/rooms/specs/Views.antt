@@ -1,15 +1,17 @@
 -- The rooms of the code, as rooms, and what a room reads off its plan and its wire.
-use Rattle.std.specs.Prelude.{ℕ, get_or, Some, vec_items, slice_index_or}
+use Rattle.std.specs.Prelude.{ℕ, List, Some, vec_items, slice_index_or}
 use Rattle.lists.specs.Words.{updated}
 use Rattle.batches.specs.declared.outcome.RunResult.{RunResult}
+use Rattle.plan.specs.Plan.{Plan}
 use Rattle.plan.specs.Plans.{plan_of}
 use Rattle.plan.specs.declared.sealed.SealedPlan.{SealedPlan}
-use Rattle.wire.specs.Wire.{Wire}
-use Rattle.order.specs.Works.{Works, no_post, works_of}
+use Rattle.wire.specs.Wire.{Wire, Posted}
+use Rattle.order.specs.Works.{Works, works_of}
 use Rattle.agreement.specs.Rooms.{Room}
 use Rattle.rooms.specs.declared.record.Record.{Record}
 use Rattle.rooms.specs.declared.room.Room.{Room as CodeRoom}
 use Rattle.rooms.specs.Records.{blank}
+use Rattle.rooms.specs.Lists.{numbers_of}
 
 -- the record of a batch; a number past the table has a blank one
 abbrev pub record_at : CodeRoom → ℕ → Record
@@ -18,9 +20,9 @@ record_at r b = slice_index_or (vec_items r.records) b blank
 -- the room that one of the code stands for
 abbrev pub room_of : CodeRoom → Room
 room_of r = record {
-  waiting = vec_items r.waiting;
-  settled = vec_items r.settled;
-  installed = vec_items r.installed;
+  waiting = numbers_of r.waiting;
+  settled = numbers_of r.settled;
+  installed = numbers_of r.installed;
   mark = (λ b. (record_at r b).mark);
   serializer = (λ b. (record_at r b).serializer);
 }
@@ -29,9 +31,14 @@ room_of r = record {
 abbrev pub works : SealedPlan → Wire → Works
 works plan w = works_of (plan_of plan) w.posts
 
--- the batches alone: what looks at sets only does not mind the masters
-abbrev pub batches : Wire → Works
-batches w = record { batch = (λ b. (get_or w.posts b no_post).batch); master = (λ _. 0) }
+-- what a room reads of its house: the plan, and the posted batches
+pub record Reading : Type 0 where
+  pub plan : Plan
+  pub posts : List Posted
+
+-- the batches that it reads of, with their masters
+abbrev pub works_in : Reading → Works
+works_in a = works_of a.plan a.posts
 
 -- a room with a batch marked
 abbrev pub room_marked : Room → ℕ → RunResult → Room

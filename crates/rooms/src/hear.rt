@@ -2,7 +2,7 @@
 ghost use Rattle.wire.specs.Choices.{telling};
 ghost use Rattle.rooms.specs.Calls.{Hearing};
 
-use crate::batch_lists::append;
+use crate::limits::BATCHES;
 use crate::room::Room;
 use refusals::Refusal;
 use wire::Wire;
@@ -14,11 +14,11 @@ impl Room {
         ensures cases { Hearing W.Wire.meaning self.old self.new wire.old wire.new result }
         ensures choice { W.Wire.chooses wire.old (telling self.old.number result) wire.new }
     {
-        if self.waiting.len() + self.settled.len() + self.installed.len() >= 256 {
+        if self.waiting.len() + self.settled.len() + self.installed.len() >= BATCHES {
             return Err(Refusal::NothingWaits);
         }
         let batch = wire.tell_tentatively(self.number)?;
-        append(&mut self.waiting, batch);
+        self.waiting.append(batch);
         Ok(batch)
     }
 }

@@ -1,47 +1,20 @@
 // Install.
-ghost use Rattle.std.specs.Prelude.{◌≡◌, None};
-ghost use Rattle.sets.specs.Sets.{size};
-ghost use Rattle.stock.specs.Stock.{Stock, Spends};
-ghost use Rattle.stock.specs.BySet.{write_set_cause};
+ghost use Rattle.std.specs.Prelude.{◌≡◌};
 ghost use Rattle.plan.specs.Plans.{plan_of};
 ghost use Rattle.refusals.specs.Causes.{answer};
-ghost use Rattle.wire.specs.Calls.{next_announcement, announcement_cause, with_received};
+ghost use Rattle.wire.specs.Calls.{next_announcement};
 ghost use Rattle.wire.specs.Choices.{nothing};
-ghost use Rattle.agreement.specs.Rooms.{turn_come, install_cause, book_written};
+ghost use Rattle.agreement.specs.Rooms.{turn_come, install_cause};
 ghost use Rattle.rooms.specs.Calls.{Installing};
-ghost use Rattle.rooms.specs.Views.{room_of, works};
+ghost use Rattle.rooms.specs.Views.{room_of, works, works_in};
 
-use crate::batch_lists::holds;
-use crate::lookups::{master_of, set_of};
 use crate::room::Room;
+use crate::works::Works;
 use crate::writing::{has_too_few, write_amounts};
 use plan::SealedPlan;
 use refusals::Refusal;
 use stock::Book;
 use wire::{Announcement, Wire};
-
-// Takes an announcement that is there off the wire, and writes its amounts to a book that takes them.
-fn take_in<W: Wire, B: Book>(
-    wire: &mut W,
-    book: &mut B,
-    number: u8,
-    sender: u8,
-    set: u32,
-    amounts: &[u32; 8],
-)
-    requires waits { announcement_cause (W.Wire.meaning wire.old) number sender ≡ None }
-    requires takes { write_set_cause (B.Book.holds book.old) set amounts.now ≡ None }
-    ensures wire { W.Wire.meaning wire.new ≡ with_received (W.Wire.meaning wire.old) number sender }
-    ensures choice { W.Wire.chooses wire.old nothing wire.new }
-    ensures book { B.Book.holds book.new ≡ book_written set amounts.now (B.Book.holds book.new).spare (B.Book.holds book.old) }
-    ensures spare { Spends (size set) (B.Book.holds book.old).spare (B.Book.holds book.new).spare }
-{
-    match wire.take_announcement(number, sender) {
-        Ok(()) => {}
-        Err(_) => unreachable(),
-    }
-    write_amounts(book, set, amounts);
-}
 
 impl Room {
     // Installs a sender's next announcement: takes it off the wire, writes its amounts to the book, and moves the batch to the
@@ -58,15 +31,9 @@ impl Room {
     {
         let announcement = self.next_install(plan, wire, book, sender)?;
         let batch = announcement.batch;
-        let set = set_of(wire, batch);
-        take_in(
-            wire,
-            book,
-            self.number,
-            sender,
-            set,
-            &announcement.result.amounts,
-        );
+        let set = Works { plan, wire }.set_of(batch);
+        wire.take_announcement(self.number, sender).unwrap();
+        write_amounts(book, set, &announcement.result.amounts);
         self.put_away(batch);
         Ok(batch)
     }
@@ -79,16 +46,17 @@ impl Room {
         book: &B,
         sender: u8,
     ) -> Result<Announcement, Refusal>
-        ensures value { result ≡ answer (install_cause (plan_of plan.now).rooms (works plan.now (W.Wire.meaning wire.now)) (W.Wire.meaning wire.now) self.now.number (room_of self.now) (B.Book.holds book.now) sender) (next_announcement (W.Wire.meaning wire.now) self.now.number sender) }
+        ensures { result ≡ answer (install_cause (plan_of plan.now).rooms (works plan.now (W.Wire.meaning wire.now)) (W.Wire.meaning wire.now) self.now.number (room_of self.now) (B.Book.holds book.now) sender) (next_announcement (W.Wire.meaning wire.now) self.now.number sender) }
     {
         if sender >= plan.rooms() || sender == self.number {
             return Err(Refusal::OutOfRange);
         }
         let announcement = wire.next_announcement(self.number, sender)?;
-        if !self.has_turn_come(plan, wire, sender, announcement) {
+        let works = Works { plan, wire };
+        if !self.has_turn_come(&works, sender, announcement) {
             return Err(Refusal::NotItsTurn);
         }
-        if has_too_few(wire, book, announcement.batch) {
+        if has_too_few(&works, book, announcement.batch) {
             return Err(Refusal::TooFewSpare);
         }
         Ok(announcement)
@@ -98,19 +66,18 @@ impl Room {
     // the serializer is settled and first in the line of each base of the batch, leaving out the batch where it is another.
     fn has_turn_come<W: Wire>(
         &self,
-        plan: &SealedPlan,
-        wire: &W,
+        works: &Works<W>,
         sender: u8,
         announcement: Announcement,
     ) -> bool
-        ensures value { result ≡ turn_come (works plan.now (W.Wire.meaning wire.now)) (room_of self.now) sender announcement }
+        ensures { result ≡ turn_come (works_in works.now) (room_of self.now) sender announcement }
     {
         let batch = announcement.batch;
         let serializer = announcement.serializer;
-        master_of(plan, wire, batch) == sender
+        works.master_of(batch) == sender
             && self.has_heard(batch)
-            && !holds(self.installed.as_slice(), batch)
-            && holds(self.settled.as_slice(), serializer)
-            && self.leads_lines(wire, batch, serializer)
+            && !self.installed.has(batch)
+            && self.settled.has(serializer)
+            && self.leads_lines(works, batch, serializer)
     }
 }

@@ -1,12 +1,14 @@
 // Rooms: a room's lists and records, and its calls over any wire and any book.
 #![tactic(auto)]
 
-mod batch_lists;
+mod batch_list;
+mod batch_list_calls;
 mod hear;
 mod install;
+mod limits;
 mod lines;
-mod lookups;
 pub mod memory;
+mod next;
 pub mod opening;
 mod pick;
 mod questions;
@@ -17,6 +19,8 @@ mod run;
 mod running;
 mod settle;
 mod settling;
+mod works;
+mod works_calls;
 mod writing;
 
 pub use memory::RoomMemory;

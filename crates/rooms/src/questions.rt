@@ -3,8 +3,7 @@ ghost use Rattle.std.specs.Prelude.{◌≡◌};
 ghost use Rattle.agreement.specs.Rooms.{heard_here};
 ghost use Rattle.rooms.specs.Views.{room_of, record_at};
 
-use crate::batch_lists::holds;
-use crate::record::Record;
+use crate::record::{BLANK, Record};
 use crate::room::Room;
 
 impl Room {
@@ -38,23 +37,15 @@ impl Room {
 
     // Whether the room has heard a batch.
     pub(crate) fn has_heard(&self, batch: u16) -> bool
-        ensures value { result ≡ heard_here (room_of self.now) batch }
+        ensures { result ≡ heard_here (room_of self.now) batch }
     {
-        holds(self.waiting(), batch)
-            || holds(self.settled(), batch)
-            || holds(self.installed(), batch)
+        self.waiting.has(batch) || self.settled.has(batch) || self.installed.has(batch)
     }
 
     // The record of a batch; a blank one for a number past the table.
     pub(crate) fn record_of(&self, batch: u16) -> Record
-        ensures value { result ≡ record_at self.now batch }
+        ensures { result ≡ record_at self.now batch }
     {
-        if batch as usize >= self.records.len() {
-            return Record {
-                mark: None,
-                serializer: 0,
-            };
-        }
-        self.records[batch as usize]
+        self.records.get(batch as usize).copied().unwrap_or(BLANK)
     }
 }

@@ -7,3 +7,9 @@ pub struct Record {
     pub mark: Option<RunResult>,
     pub serializer: u16,
 }
+
+// The record of a batch that is neither run nor settled.
+pub(crate) const BLANK: Record = Record {
+    mark: None,
+    serializer: 0,
+};

@@ -5,11 +5,10 @@ ghost use Rattle.refusals.specs.Causes.{answer};
 ghost use Rattle.wire.specs.Choices.{nothing};
 ghost use Rattle.agreement.specs.Rooms.{announcement_of, room_release, release_cause};
 ghost use Rattle.rooms.specs.Calls.{Releasing};
-ghost use Rattle.rooms.specs.Views.{room_of, works};
+ghost use Rattle.rooms.specs.Views.{room_of, works_in};
 
-use crate::batch_lists::holds;
-use crate::lookups::{master_of, set_of};
 use crate::room::Room;
+use crate::works::Works;
 use crate::writing::{has_too_few, write_amounts};
 use plan::SealedPlan;
 use refusals::Refusal;
@@ -29,8 +28,9 @@ impl Room {
         ensures cases { Releasing W.Wire.meaning B.Book.holds plan.now self.old self.new wire.old wire.new book.old book.new batch result }
         ensures choice { W.Wire.chooses wire.old nothing wire.new }
     {
-        let announcement = self.next_release(plan, wire, book, batch)?;
-        let set = set_of(wire, batch);
+        let works = Works { plan, wire };
+        let announcement = self.next_release(&works, book, batch)?;
+        let set = works.set_of(batch);
         wire.announce(self.number, announcement)?;
         write_amounts(book, set, &announcement.result.amounts);
         self.release_batch(batch);
@@ -40,30 +40,27 @@ impl Room {
     // The announcement of a batch that may be released, or why it may not.
     fn next_release<W: Wire, B: Book>(
         &self,
-        plan: &SealedPlan,
-        wire: &W,
+        works: &Works<W>,
         book: &B,
         batch: u16,
     ) -> Result<Announcement, Refusal>
-        ensures value { result ≡ answer (release_cause (works plan.now (W.Wire.meaning wire.now)) self.now.number (room_of self.now) (B.Book.holds book.now) batch) (announcement_of (room_of self.now) batch) }
+        ensures { result ≡ answer (release_cause (works_in works.now) self.now.number (room_of self.now) (B.Book.holds book.now) batch) (announcement_of (room_of self.now) batch) }
     {
         if !self.has_heard(batch) {
             return Err(Refusal::UnknownBatch);
         }
-        if master_of(plan, wire, batch) != self.number {
+        if works.master_of(batch) != self.number {
             return Err(Refusal::NotMaster);
         }
-        if holds(self.installed.as_slice(), batch) {
+        if self.installed.has(batch) {
             return Err(Refusal::AlreadyInstalled);
         }
         let record = self.record_of(batch);
-        let Some(result) = record.mark else {
-            return Err(Refusal::NotMarked);
-        };
-        if holds(self.waiting.as_slice(), batch) {
+        let result = record.mark.ok_or(Refusal::NotMarked)?;
+        if self.waiting.has(batch) {
             return Err(Refusal::StillWaiting);
         }
-        if has_too_few(wire, book, batch) {
+        if has_too_few(works, book, batch) {
             return Err(Refusal::TooFewSpare);
         }
         Ok(Announcement {

@@ -5,21 +5,20 @@ ghost use Rattle.sets.specs.Sets.{size};
 ghost use Rattle.stock.specs.Stock.{Stock, Spends};
 ghost use Rattle.stock.specs.BySet.{write_set_cause};
 ghost use Rattle.agreement.specs.Rooms.{book_written, too_few, room_install};
-ghost use Rattle.rooms.specs.Views.{room_of, batches};
+ghost use Rattle.rooms.specs.Views.{room_of, works_in};
 
-use crate::batch_lists::{append, take_out};
-use crate::lookups::set_of;
 use crate::room::Room;
+use crate::works::Works;
 use sets::count_bases;
 use stock::Book;
 use stock::by_set::write_set;
 use wire::Wire;
 
 // Whether a book has fewer spare entries than a batch has bases.
-pub(crate) fn has_too_few<W: Wire, B: Book>(wire: &W, book: &B, batch: u16) -> bool
-    ensures value { result ≡ too_few (batches (W.Wire.meaning wire.now)) (B.Book.holds book.now) batch }
+pub(crate) fn has_too_few<W: Wire, B: Book>(works: &Works<W>, book: &B, batch: u16) -> bool
+    ensures { result ≡ too_few (works_in works.now) (B.Book.holds book.now) batch }
 {
-    book.spare() < count_bases(set_of(wire, batch))
+    book.spare() < count_bases(works.set_of(batch))
 }
 
 // Writes a set's amounts to a book that takes them.
@@ -28,21 +27,18 @@ pub(crate) fn write_amounts<B: Book>(book: &mut B, set: u32, amounts: &[u32; 8])
     ensures after { B.Book.holds book.new ≡ book_written set amounts.now (B.Book.holds book.new).spare (B.Book.holds book.old) }
     ensures spare { Spends (size set) (B.Book.holds book.old).spare (B.Book.holds book.new).spare }
 {
-    match write_set(book, set, amounts) {
-        Ok(()) => {}
-        Err(_) => unreachable(),
-    }
+    write_set(book, set, amounts).unwrap();
 }
 
 impl Room {
     // Moves a batch from the waiting or the settled list to the end of the installed list.
     pub(crate) fn put_away(&mut self, batch: u16)
-        requires { (member batch self.old.waiting.items || member batch self.old.settled.items) ≡ true }
+        requires { (member batch (room_of self.old).waiting || member batch (room_of self.old).settled) ≡ true }
         ensures after { room_of self.new ≡ room_install (room_of self.old) batch }
         ensures number { self.new.number ≡ self.old.number }
     {
-        take_out(&mut self.waiting, batch);
-        take_out(&mut self.settled, batch);
-        append(&mut self.installed, batch);
+        self.waiting.take_out(batch);
+        self.settled.take_out(batch);
+        self.installed.append(batch);
     }
 }

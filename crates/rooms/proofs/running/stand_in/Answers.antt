@@ -1,11 +1,14 @@
-use Rattle.std.proofs.Common.{ap, ◌∙◌}
+use Rattle.std.proofs.Common.{◌≡◌, [], ap, ◌∙◌}
 use Rattle.batches.specs.Batches.{Batch, step_cause}
+use Rattle.batches.specs.Sealed.{draft_of}
 use Rattle.batches.specs.declared.step.Step.TheVariants.{Add}
-use Rattle.rooms.proofs.Works.{set-taken, step-taken, never}
+use Rattle.rooms.proofs.Results.{set-taken, step-taken, taken}
 use Rattle.rooms.proofs.running.stand_in.Goals as goal
 
-pub unreachable-requires : goal.unreachable-requires
-unreachable-requires c = never set-taken c.in-Err.ensures.refused
+pub unwrap-draft-requires : goal.unwrap-draft-requires
+unwrap-draft-requires c = taken _ (c.write.ensures.refused ∙ set-taken)
 
-pub unreachable-requires-in-Err-add_step : goal.unreachable-requires-in-Err-add_step
-unreachable-requires-in-Err-add_step c = never (ap (λ (b : Batch). step_cause b (Add 0 1)) c.in-Ok.ensures.made ∙ step-taken) c.in-Err-add_step.ensures.refused
+pub unwrap-requires : goal.unwrap-requires
+unwrap-requires c =
+    let made : draft_of c.unwrap-draft.result ≡ record { set = 1; steps = [] } = rw c.unwrap-draft.ensures at c.write.ensures.made in
+    taken _ (c.add_step.ensures.refused ∙ ap (λ (b : Batch). step_cause b (Add 0 1)) made ∙ step-taken)

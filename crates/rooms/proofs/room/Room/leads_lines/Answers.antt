@@ -1,28 +1,33 @@
-use Rattle.std.proofs.Common.{false, ◌++◌, vec_items, unwrap_or, sym, ap, ◌∙◌}
-use Rattle.order.specs.Works.{Works}
-use Rattle.rooms.specs.Lines.{told_first}
-use Rattle.rooms.specs.Views.{batches}
-use Rattle.rooms.proofs.Posts.{posts-sized}
-use Rattle.rooms.proofs.Firsts.{told_is, told-left, told-right}
+use Rattle.std.proofs.Common.{rules, tests, ◌≡◌, true, ◌++◌, sym, ap, ◌∙◌}
+use Rattle.std.specs.List.{find}
+use Rattle.std.proofs.lemmas.Iterator.{YieldsList-from_slice}
+use Rattle.std.proofs.lemmas.Iterator.Adapters.{option_map_id}
+use Rattle.std.proofs.lemmas.Iterator.Consumers.{YieldsList-from_chain, YieldsList-from_copied}
+use Rattle.std.proofs.lemmas.Iterator.Search.{find_from_yields_List}
+use Rattle.sets.specs.Sets.{sized}
+use Rattle.order.specs.Works.{Works, set_of}
+use Rattle.rooms.specs.Views.{works_in}
+use Rattle.rooms.specs.Lists.{numbers_of}
+use Rattle.rooms.proofs.Firsts.{decides, led_told, led-not}
 use Rattle.rooms.proofs.room.Room.leads_lines.Goals as goal
 
-pub returns-in-Some : goal.returns-in-Some
-returns-in-Some g c =
-    let wire = c.args.wire.now in
-    let r = c.args.self.now in
-    let w : Works = batches (g.W.Wire.meaning wire) in
+pub returns-then-lies_within : goal.returns-then-lies_within
+returns-then-lies_within g c =
+    let w : Works = works_in c.args.works.now in
     let b = c.args.batch in
     let q = c.args.leader in
-    let told = ap (told_first w b q) (sym c.as_slice.ensures.value) ∙ sym c.in-Some.ensures.value in
-    record { value = sym (told_is w b q (posts-sized _ (g.met.W.Wire.sound wire) b) (vec_items r.settled ++ vec_items r.waiting) ∙ ap (λ o. unwrap_or o false) (told-left w b q (vec_items r.settled) (vec_items r.waiting) c.in-Some.first told)) }
+    let xs = numbers_of c.args.self.now.settled in
+    let ys = numbers_of c.args.self.now.waiting in
+    let first = c.find.result in
+    let found : first ≡ find (decides w b q) (xs ++ ys) =
+    sym (option_map_id first) ∙ find_from_yields_List (decides w b q) _ _ first c.find.ensures.ran (YieldsList-from_copied (YieldsList-from_chain (YieldsList-from_slice xs cc) (YieldsList-from_slice ys cc) (cc) (cc))) (λ x t p k. search (rules, tests)) in
+    let some : sized (set_of w b) ≡ true = ap sized (sym c.set_of-set.ensures.value) ∙ c.set_of-set.ensures.sized in
+    c.eq.ensures ∙ led_told w b q some (xs ++ ys) first found (rw (c.set_of-set.ensures.value, c.set_of.ensures.value) at (sym c.lies_within.ensures ∙ c.if-lies_within.true))
 
-pub returns-in-None : goal.returns-in-None
-returns-in-None g c =
-    let wire = c.args.wire.now in
-    let r = c.args.self.now in
-    let w : Works = batches (g.W.Wire.meaning wire) in
+pub returns-else-lies_within : goal.returns-else-lies_within
+returns-else-lies_within g c =
+    let w : Works = works_in c.args.works.now in
     let b = c.args.batch in
-    let q = c.args.leader in
-    let told = ap (told_first w b q) (sym c.as_slice.ensures.value) ∙ sym c.in-None.ensures.value in
-    let rest = ap (told_first w b q) (sym c.as_slice-in-None.ensures.value) ∙ sym c.tell_first-in-None.ensures.value in
-    record { value = c.unwrap_or.ensures ∙ sym (told_is w b q (posts-sized _ (g.met.W.Wire.sound wire) b) (vec_items r.settled ++ vec_items r.waiting) ∙ ap (λ o. unwrap_or o false) (told-right w b q (vec_items r.settled) (vec_items r.waiting) told ∙ rest)) }
+    let r = c.args.self.now in
+    let some : sized (set_of w b) ≡ true = ap sized (sym c.set_of-set.ensures.value) ∙ c.set_of-set.ensures.sized in
+    c.if-lies_within.false ∙ led-not w b c.args.leader some (numbers_of r.settled ++ numbers_of r.waiting) (rw (c.set_of-set.ensures.value, c.set_of.ensures.value) at (sym c.lies_within.ensures ∙ c.if-lies_within.false))

@@ -8,20 +8,19 @@ use Rattle.order.specs.Works.{Works, set_of}
 use Rattle.agreement.specs.Rooms.{announcement_of, book_written}
 use Rattle.rooms.specs.Views.{room_of, works}
 use Rattle.rooms.proofs.Causes.{err_cause, ok_cause, or_else-both, or_else-next, or_else-first, releasable, write_taken_lem, announce-small}
-use Rattle.rooms.proofs.Posts.{posts-sized}
 use Rattle.rooms.proofs.room.Room.release.Goals as goal
 
 pub returns-in_err-announcement : goal.returns-in_err-announcement
 returns-in_err-announcement g c =
     let p = err_from_is_err_and c.from_residual.result c.from_residual.ensures.1 in
-    rw (p.1, p.2) (record { cases = record { why = or_else-first _ _ _ (err_cause _ _ _ c.in_err-announcement.ensures.value); room = refl; wire = refl; book = refl }; choice = g.met.W.Wire.idle _ })
+    rw (p.1, p.2) (record { cases = record { why = or_else-first _ _ _ (err_cause _ _ _ c.in_err-announcement.ensures); room = refl; wire = refl; book = refl }; choice = g.met.W.Wire.idle _ })
 
 pub returns-in_err-announce : goal.returns-in_err-announce
 returns-in_err-announce g c =
     let p = err_from_is_err_and c.from_residual-in_err-announce.result c.from_residual-in_err-announce.ensures.1 in
     let k = c.args.self.now.number in
     let m : Wire = g.W.Wire.meaning c.args.wire.now in
-    let ok = ok_cause _ _ _ c.in_ok-announcement.ensures.value in
+    let ok = ok_cause _ _ _ c.in_ok-announcement.ensures in
     let told = c.in_err-announce.ensures in
     rw (p.1, p.2) (record { cases = record { why = or_else-next _ _ _ ok.0 (ap (announce_cause m k) (sym ok.1) ∙ told.cases.cause); room = refl; wire = told.same; book = refl }; choice = told.choice })
 
@@ -34,16 +33,16 @@ write_amounts-requires g c =
     let r = c.args.self.now in
     let set = c.set_of-set.ensures.value in
     let a = c.in_ok-announcement.announcement in
-    let ok = ok_cause _ _ _ c.in_ok-announcement.ensures.value in
+    let ok = ok_cause _ _ _ c.in_ok-announcement.ensures in
     let enough = (releasable w r.number (room_of r) s b ok.0).enough in
     let small = announce-small (g.W.Wire.meaning wire) r.number a c.in_ok-announce.ensures.cases.cause in
-    write_taken_lem s c.set_of-set.result a.result.amounts (rw set (posts-sized _ (g.met.W.Wire.sound wire) b)) (rw set enough) small
+    write_taken_lem s c.set_of-set.result a.result.amounts c.set_of-set.ensures.sized (rw set enough) small
 
 pub release_batch-requires : goal.release_batch-requires
 release_batch-requires g c =
     let w : Works = works c.args.plan.now (g.W.Wire.meaning c.args.wire.now) in
     let r = c.args.self.now in
-    let ok = ok_cause _ _ _ c.in_ok-announcement.ensures.value in
+    let ok = ok_cause _ _ _ c.in_ok-announcement.ensures in
     let may = releasable w r.number (room_of r) (g.B.Book.holds c.args.book.now) c.args.batch ok.0 in
     record { settled = may.settled; waiting = may.waiting }
 
@@ -59,7 +58,7 @@ returns g c =
     let t : Stock = g.B.Book.holds c.write_amounts.new.book in
     let set = c.set_of-set.ensures.value in
     let a = c.in_ok-announcement.announcement in
-    let ok = ok_cause _ _ _ c.in_ok-announcement.ensures.value in
+    let ok = ok_cause _ _ _ c.in_ok-announcement.ensures in
     let is : a ≡ announcement_of (room_of r) b = ok.1 in
     let told = c.in_ok-announce.ensures.cases in
     let values = ap (λ (x : Announcement). x.result.amounts) is in
