@@ -2,7 +2,7 @@
 use Rattle.std.proofs.Common.{◌≡◌, ℕ, zero, suc, ◌<◌, Bool, true, false, cond, not, ◌||◌, eqb, ltb, leb, List, [], ◌∷◌, ◌++◌, length, take, is_ok, Some, None, Ok, Err, Option, refl, ap, ◌∙◌, inl, inr, arith}
 use Rattle.std.specs.List.{find}
 use Rattle.std.proofs.lemmas.Option.{same_Some}
-use Rattle.std.proofs.lemmas.Bool.{cases_Bool, both_ways, eqb-true, not-false, and_parts, or_cases, or_from, or_parts, ltb-true, leb-true, leb-false, le-ltb}
+use Rattle.std.proofs.lemmas.Bool.{cases_Bool, both_ways, eqb-true, not-false, and_parts, or_cases, or_from, ltb-true, leb-true, le-ltb}
 use Rattle.lists.specs.Words.{member, any, all}
 use Rattle.lists.proofs.Members.{all_at, all_get_d, member-append}
 use Rattle.refusals.specs.Causes.{answer}
@@ -10,9 +10,8 @@ use Rattle.refusals.specs.declared.refusal.Refusal.{Refusal}
 use Rattle.sets.specs.Sets.{size, sized}
 use Rattle.stock.specs.Stock.{Stock, over_limit}
 use Rattle.stock.specs.BySet.{write_set_cause}
-use Rattle.plan.specs.Plan.{Plan, plan_right}
 use Rattle.wire.specs.Wire.{Wire}
-use Rattle.wire.specs.Calls.{no_room, announced_before, amounts_small, announcement_waits, no_announcement, next_announcement, announce_cause, announcement_cause, Sound}
+use Rattle.wire.specs.Calls.{no_room, announced_before, amounts_small, announcement_waits, no_announcement, next_announcement, announce_cause, Sound}
 use Rattle.wire.specs.declared.announcement.Announcement.{Announcement}
 use Rattle.order.specs.Works.{Works}
 use Rattle.agreement.specs.Rooms.{Room, heard_here, is_marked, run_cause, too_few, release_cause, turn_come, install_cause, Picks}
@@ -21,7 +20,6 @@ use Rattle.rooms.specs.Calls.{or_else}
 use Rattle.rooms.specs.Records.{known}
 use Rattle.rooms.specs.Lists.{numbers_of}
 use Rattle.rooms.specs.Views.{room_of}
-use Rattle.rooms.proofs.Blanks.{rooms-eight}
 
 -- no cause, where the first is checked before the rest
 pub none-parts : (test : Bool) (e : Refusal) (rest : Option Refusal) → cond test (Some e) rest ≡ None → (test ≡ false) × (rest ≡ None)
@@ -135,16 +133,6 @@ installable rooms w wire k r s sender h =
     let turn = none-parts (not (turn_come w r sender (next_announcement wire k sender))) _ _ waits.1 in
     let few = none-parts (too_few w s (next_announcement wire k sender).batch) _ _ turn.1 in
     record { turn = not-false (turn_come w r sender (next_announcement wire k sender)) turn.0; enough = few.0 }
-
--- and the wire has it for this room
-pub announcement-there : (p : Plan) (w : Works) (wire : Wire) (r : CodeRoom) (s : Stock) (sender : ℕ) → plan_right p ≡ true → install_cause p.rooms w wire r.number (room_of r) s sender ≡ None → announcement_cause wire r.number sender ≡ None
-announcement-there p w wire r s sender right h =
-    let range = none-parts (leb p.rooms sender || eqb sender r.number) _ _ h in
-    let waits = none-parts (not (announcement_waits wire r.number sender)) _ _ range.1 in
-    let low = leb-false p.rooms sender (or_parts (leb p.rooms sender) (eqb sender r.number) range.0).0 in
-    let here : no_room r.number ≡ false = le-ltb 7 r.number (omega (arith, r.eight)) in
-    let there : no_room sender ≡ false = le-ltb 7 sender (omega (arith, low, rooms-eight p right)) in
-    rw (here, there, waits.0)
 
 -- what is announced is within the limit
 none_over : (n : ℕ) (values : List ℕ) → all (λ amount. leb amount 1000000000) values ≡ true → any over_limit (take n values) ≡ false

@@ -18,10 +18,7 @@ before-found l a b i j ea eb h = let m = member-place b l in grind arith
 pub before-missing : (l : List ℕ) (a b : ℕ) → member a l ≡ false → false ≡ before l a b
 before-missing l a b h = let m = member-place a l in let n = member-place b l in grind arith
 
--- a turn of the loop that keeps what passes a test
-pub keep-turn : (p : ℕ → Bool) (xs : List ℕ) (i : ℕ) → i < length xs → keep p (drop i xs) ≡ cond (p (get_or xs i 0)) (get_or xs i 0 ∷ []) [] ++ keep p (drop (i + 1) xs)
-keep-turn p xs i h = at_drop_more (keep p) xs i 0 h ∙ elim (cases_Bool (p (get_or xs i 0))) [ inl t ↦ rw t | inr f ↦ rw f ]
-
+-- a turn of a loop that counts what passes a test
 pub length-turn : (p : ℕ → Bool) (xs : List ℕ) (i : ℕ) → i < length xs → length (keep p (drop i xs)) ≡ cond (p (get_or xs i 0)) 1 0 + length (keep p (drop (i + 1) xs))
 length-turn p xs i h = ap length (at_drop_more (keep p) xs i 0 h) ∙ elim (cases_Bool (p (get_or xs i 0))) [ inl t ↦ rw t (omega arith) | inr f ↦ rw f (omega arith) ]
 

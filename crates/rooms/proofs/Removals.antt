@@ -1,12 +1,12 @@
 -- Taking a batch out of a list: the element at a place by closing its gap and leaving the last one off, and a batch by
 -- taking out the first of it until none is left.
 use Rattle.std.proofs.Common.{◌≡◌, ℕ, zero, suc, ◌+◌, ◌-◌, ◌<◌, ◌≤◌, Bool, true, false, cond, ◌||◌, eqb, List, [], ◌∷◌, length, take, drop, Some, None, Option, refl, ap, ◌∙◌, inl, inr, add-one, arith, MatchOption}
-use Rattle.std.proofs.lemmas.List.{length-append, length-take-le, length-drop}
 use Rattle.std.proofs.lemmas.Bool.{cases_Bool, and_parts, and_from}
 use Rattle.lists.specs.Words.{all, member, place, without}
 use Rattle.lists.specs.Gaps.{without_at, closed}
 use Rattle.lists.proofs.Gaps.{front-closed}
 use Rattle.lists.proofs.Members.{all_append}
+use Rattle.rooms.proofs.Loops.{turned}
 
 -- a list with the gap at a place closed, and its last element left off
 pub gap_cut : (r : Option ℕ) (old new : List ℕ) (at : ℕ) → at < length old → MatchOption r ((length old ≤ at) × (new ≡ old)) (λ _. (at < length old) × (new ≡ closed at old)) → take (length old - 1) new ≡ without_at at old
@@ -30,25 +30,16 @@ all_left f at xs h = all_append f (take at xs) (drop (at + 1) xs) (front at xs h
     front (suc n) [] h = refl
     front (suc n) (x ∷ l) h = let z = and_parts (f x) (all f l) h in and_from (f x) (all f (take n l)) z.0 (front n l z.1)
 
-pub length-without_at : (xs : List ℕ) (at : ℕ) → at < length xs → length (without_at at xs) + 1 ≡ length xs
-length-without_at xs at h = let l : at ≤ length xs = omega arith in omega (arith, length-append (take at xs) (drop (at + 1) xs), length-take-le at xs l, length-drop (at + 1) xs)
-
-turned : (a b : ℕ) → eqb a b ≡ false → eqb b a ≡ false
-turned a b h = grind arith
-
-turned_yes : (a b : ℕ) → eqb a b ≡ true → eqb b a ≡ true
-turned_yes a b h = grind arith
-
 -- the list without a batch is the same once the first of it is out
 pub without-first : (b : ℕ) (xs : List ℕ) → place b xs < length xs → without b (without_at (place b xs) xs) ≡ without b xs
 without-first b [] h = absurd (omega arith)
 without-first b (x ∷ xs) h =
     elim (cases_Bool (eqb b x)) [
-      | inl t ↦ rw (t, turned_yes b x t)
+      | inl t ↦ rw (t, turned x b ∙ t)
       | inr f ↦
           let k : suc (place b xs) < suc (length xs) = rw f at h in
           let rest = without-first b xs (omega arith) in
-          rw (f, add-one, turned b x f) (ap (λ l. x ∷ l) (rw add-one at rest))
+          rw (f, add-one, turned x b ∙ f) (ap (λ l. x ∷ l) (rw add-one at rest))
     ]
 
 pub without-none : (b : ℕ) (xs : List ℕ) → member b xs ≡ false → without b xs ≡ xs
@@ -61,8 +52,8 @@ length_without b [] = omega arith
 length_without b (x ∷ xs) =
     let rest = length_without b xs in
     elim (cases_Bool (eqb b x)) [
-      | inl t ↦ rw (t, turned_yes b x t) (let less = no_longer b xs in omega arith)
-      | inr f ↦ rw (f, turned b x f) (omega arith)
+      | inl t ↦ rw (t, turned x b ∙ t) (let less = no_longer b xs in omega arith)
+      | inr f ↦ rw (f, turned x b ∙ f) (omega arith)
     ]
   where
     no_longer : (b : ℕ) (xs : List ℕ) → length (without b xs) ≤ length xs

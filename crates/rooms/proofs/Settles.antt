@@ -1,31 +1,16 @@
 -- The parts of a settle, joined: what the lists and the table are afterwards is the settled room.
-use Rattle.std.proofs.Common.{◌≡◌, ℕ, ◌-◌, Bool, true, false, cond, not, ◌&&◌, eqb, List, [], ◌∷◌, ◌++◌, length, get_or, take, drop, is_some, None, Option, sym, refl, ap, ◌∙◌, inl, inr}
+use Rattle.std.proofs.Common.{◌≡◌, ℕ, ◌-◌, true, cond, not, ◌&&◌, List, [], ◌∷◌, ◌++◌, length, get_or, take, drop, is_some, None, Option, sym, ap, ◌∙◌}
 use mathlib.Core.Path.{fun_ext}
 use Rattle.std.proofs.lemmas.List.{take_rest, drop_at}
-use Rattle.std.proofs.lemmas.Bool.{cases_Bool, and_parts, and_from, cond-true}
-use Rattle.lists.specs.Words.{member, all, keep}
-use Rattle.lists.proofs.Members.{all_at, all_push}
+use Rattle.std.proofs.lemmas.Bool.{cond-true}
+use Rattle.lists.specs.Words.{member, keep}
 use Rattle.lists.proofs.Keeps.{keep_same}
 use Rattle.batches.specs.declared.outcome.RunResult.{RunResult}
 use Rattle.order.specs.Works.{Works, share}
 use Rattle.agreement.specs.Rooms.{Room, room_settled, room_settle, ahead_count, thrown_count}
 use Rattle.rooms.specs.declared.record.Record.{Record}
-use Rattle.rooms.specs.Records.{blank, known}
-use Rattle.rooms.specs.Settles.{goes_ahead, ahead_of, would_lose}
-
-pub all_keep : (f p : ℕ → Bool) (l : List ℕ) → all f l ≡ true → all f (keep p l) ≡ true
-all_keep f p [] h = refl
-all_keep f p (x ∷ l) h =
-    let z = and_parts (f x) (all f l) h in
-    elim (cases_Bool (p x)) [ inl t ↦ rw t (and_from (f x) (all f (keep p l)) z.0 (all_keep f p l z.1)) | inr e ↦ rw e (all_keep f p l z.1) ]
-
--- those that move have their records
-pub moved-known : (w : Works) (k : ℕ) (waiting : List ℕ) (t : ℕ) → all known waiting ≡ true → member t waiting ≡ true → all known (ahead_of w k waiting t ++ t ∷ []) ≡ true
-moved-known w k waiting t h m = all_push known (ahead_of w k waiting t) t (ahead (eqb (w.master t) k)) (all_at known waiting h t m)
-  where
-    ahead : (b : Bool) → all known (cond b (keep (goes_ahead w k waiting t) waiting) []) ≡ true
-    ahead true = all_keep known (goes_ahead w k waiting t) waiting h
-    ahead false = refl
+use Rattle.rooms.specs.Records.{blank}
+use Rattle.rooms.specs.Settles.{ahead_of, would_lose}
 
 -- the part of the settled list that is new
 pub new_part : (settled : List ℕ) (before : ℕ) (old moved : List ℕ) → settled ≡ old ++ moved → length old ≡ before → take (length settled - before) (drop before settled) ≡ moved

@@ -36,12 +36,6 @@ module _ (table : List Record) (b : ℕ) (h : b < length table) (x : Record) (is
 abbrev pub lost : (ℕ → Bool) → List ℕ → List ℕ → ℕ → Bool
 lost q all_of left a = q a && (member a all_of && not (member a left))
 
-pub lost-none : (q : ℕ → Bool) (l : List ℕ) (a : ℕ) → lost q l l a ≡ false
-lost-none q l a = two (q a) (member a l)
-  where
-    two : (x y : Bool) → (x && (y && not y)) ≡ false
-    two x y = grind arith
-
 lost_other : (q : ℕ → Bool) (l rest : List ℕ) (a b : ℕ) → eqb a b ≡ false → lost q l (b ∷ rest) a ≡ lost q l rest a
 lost_other q l rest a b e = rw e
 

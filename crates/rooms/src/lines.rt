@@ -15,10 +15,11 @@ impl Room {
         ensures { result ≡ first_before (works_in works.now) (room_of self.now) batch leader }
     {
         let set = works.set_of(batch);
-        lies_within(set, works.set_of(leader))
-            && self.settled().iter().chain(self.waiting()).copied().find(|other| *other == leader
-                || *other != batch && shares_base(works.set_of(*other), set))
-                == Some(leader)
+        let decides = |other: &u16| {
+            *other == leader || *other != batch && shares_base(works.set_of(*other), set)
+        };
+        let mut lines = self.settled().iter().chain(self.waiting()).copied();
+        lies_within(set, works.set_of(leader)) && lines.find(decides) == Some(leader)
     }
 
     // Whether a batch is first in all its lines.
