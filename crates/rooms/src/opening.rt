@@ -27,27 +27,18 @@ impl Room {
                 refusal: Refusal::OutOfRange,
             });
         }
-        Ok(Room::build(number, memory))
-    }
-
-    // A new room over memory that is reserved.
-    fn build(number: u8, memory: RoomMemory) -> Room
-        requires { number < 8 }
-        ensures number { result.number ≡ number }
-        ensures room { room_of result ≡ new_room }
-    {
         let RoomMemory {
             waiting,
             settled,
             installed,
             records,
         } = memory;
-        Room {
+        Ok(Room {
             number,
             waiting,
             settled,
             installed,
             records,
-        }
+        })
     }
 }

@@ -84,26 +84,25 @@ impl<W: Wire> Next<'_, W> {
     {
         let mut thrown = 0;
         for (at, batch) in waiting.iter().enumerate() {
-            thrown += self.throw_one(records, &waiting[at + 1..], *batch);
+            if self.throw_one(records, &waiting[at + 1..], *batch) {
+                thrown += 1;
+            }
         }
         thrown
     }
 
-    // Takes the mark off a batch that would lose one. Answers how many marks were thrown. A batch that is to come once more in
-    // the rest of the list counts now, and loses its mark then.
-    fn throw_one(&self, records: &mut [Record], rest: &[u16], batch: u16) -> u16
+    // Takes the mark off a batch that would lose one, and tells whether it would. A batch that is to come once more in the rest
+    // of the list keeps it until then.
+    fn throw_one(&self, records: &mut [Record], rest: &[u16], batch: u16) -> bool
         requires { batch < length records.old }
-        ensures value { result ≡ (if would_lose (works_in self.now.works.now) records.old self.now.batch batch then 1 else 0) }
+        ensures value { result ≡ would_lose (works_in self.now.works.now) records.old self.now.batch batch }
         ensures after { records.new ≡ (if would_lose (works_in self.now.works.now) records.old self.now.batch batch && not (member batch rest.now) then unmarked records.old batch else records.old) }
-        ensures few { result ≤ 1 }
     {
-        if !self.would_lose(records, batch) {
-            return 0;
-        }
-        if !holds(rest, batch) {
+        let loses = self.would_lose(records, batch);
+        if loses && !holds(rest, batch) {
             records[batch as usize].mark = None;
         }
-        1
+        loses
     }
 
     // Whether a batch bears a mark and has a base in common with this one.
