@@ -2,11 +2,12 @@
 use Rattle.std.proofs.Math.Logic.{∥∥₁_elim}
 use mathlib.Core.Logic.{∥∥₁_map}
 use denote.Struct.Props.{props}
-use Rattle.std.proofs.Common.{◌≡◌, ℕ, zero, suc, true, List, [], map, length, None, Ok, Err, vec_items, Result, Vec, sym, refl, ap, subst, ◌∙◌, arith}
+use Rattle.std.proofs.Common.{◌≡◌, ℕ, zero, suc, true, eqb, List, [], map, length, None, Ok, Err, vec_items, Result, Vec, sym, refl, ap, subst, ◌∙◌, arith}
 use Rattle.std.specs.Result.{IsOk}
 use Rattle.std.specs.declared.alloc.Global.{Global}
-use Rattle.std.proofs.lemmas.Bool.{and_from}
+use Rattle.std.proofs.lemmas.Bool.{and_from, eq-eqb}
 use Rattle.lists.specs.Words.{all, rising}
+use Rattle.lists.proofs.Members.{all_from}
 use Rattle.stock.specs.Stock.{Amounts, Stock}
 use Rattle.plan.specs.Plan.{Plan}
 use Rattle.plan.specs.Plans.{plan_of}
@@ -16,8 +17,6 @@ use Rattle.house.specs.declared.house.House.{House}
 use Rattle.house.specs.declared.unopened.Unopened.{Unopened}
 use Rattle.house.specs.Openings.{given_of, same_amounts, all_equal, open_reason, Opened, Opening}
 use Rattle.house.specs.Views.{Held}
-use Rattle.house.proofs.Equals.{same_true}
-use Rattle.house.proofs.Opened.{against_none}
 use Rattle.openings.specs.Books.{new_book}
 use Rattle.houses.specs.Books.{new_books}
 use Rattle.houses.specs.Led.{given}
@@ -33,19 +32,23 @@ books-count : (opening : Amounts) (start n : ℕ) → length (map (new_book open
 books-count opening start zero = refl
 books-count opening start (suc n) = ap suc (books-count opening (suc start) n)
 
+same_held : (a b : Stock) → a.amounts ≡ b.amounts → same_amounts a b ≡ true
+unfolding same_amounts
+same_held a b e = all_from (λ x. eqb (a.amounts x) (b.amounts x)) (rising 0 32) (λ x _. eq-eqb _ _ (ap (λ (m : Amounts). m x) e))
+
 -- books that hold the opening amounts hold those of any such book
 alike : (opening : Amounts) (b : Stock) → b.amounts ≡ opening → (start n : ℕ) → all (λ a. same_amounts a b) (map (new_book opening) (rising start n)) ≡ true
 alike opening b is start zero = refl
-alike opening b is start (suc n) = and_from _ _ (same_true (new_book opening start) b (λ x _. ap (λ (m : Amounts). m x) (sym is))) (alike opening b is (suc start) n)
+alike opening b is start (suc n) = and_from _ _ (same_held (new_book opening start) b (sym is)) (alike opening b is (suc start) n)
 
 all_alike : (opening : Amounts) (n : ℕ) → all_equal (new_books n opening) ≡ true
 all_alike opening zero = refl
 all_alike opening (suc n) = alike opening (new_book opening 0) refl 0 (suc n)
 
-pub none_against : (plan : Plan) (wire : Wire) (books : List Stock) (opening : Amounts) → wire ≡ new_wire → books ≡ new_books plan.rooms opening → open_reason plan wire books ≡ None
-none_against plan wire books opening fresh is =
-    ap (λ (w : Wire). open_reason plan w books) fresh ∙ ap (open_reason plan new_wire) is
-    ∙ sym (against_none plan new_wire (new_books plan.rooms opening) (books-count opening 0 plan.rooms) (all_alike opening plan.rooms) refl)
+none_against : (plan : Plan) (wire : Wire) (books : List Stock) (opening : Amounts) → wire ≡ new_wire → books ≡ new_books plan.rooms opening → open_reason plan wire books ≡ None
+none_against plan wire books opening new are =
+    let count : eqb (length (new_books plan.rooms opening)) plan.rooms ≡ true = eq-eqb _ _ (books-count opening 0 plan.rooms) in
+    rw (new, are, count, all_alike opening plan.rooms) refl
 
 -- a house that is opened over a new wire, with the books that its memory gives
 module _ (memory : OpeningMemory) (plan : SealedPlan) (wire : PolicyWire AnyPolicy) (books : Vec StockBook Global) (opening : Amounts) (rooms : ℕ) (ledger : wire.ledger ≡ memory.wire.ledger) (held : map book_holds (vec_items books) ≡ new_books rooms opening) (count : rooms ≡ (plan_of plan).rooms) where
