@@ -17,8 +17,7 @@ impl<W: Wire, B: Book> House<W, B> {
         ensures same { SameIfRefused (answer_of result) (self.new ≡ self.old) }
         ensures choice { W.Wire.chooses self.old.wire (choice_of (call_of call) (answer_of result)) self.new.wire }
     {
-        self.make(call)
-            .unwrap_or_else(|refusal| Answer::Refused(refusal))
+        self.make(call).unwrap_or_else(Answer::Refused)
     }
 
     // Makes a call, and gives the answer where it is not refused.

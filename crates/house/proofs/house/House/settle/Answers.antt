@@ -3,7 +3,7 @@ use Rattle.refusals.specs.declared.refusal.Refusal.TheVariants.{OutOfRange}
 use Rattle.plan.specs.Plans.{plan_of}
 use Rattle.house.proofs.Places.{numbered-still}
 use Rattle.house.proofs.Steps.{outside}
-use Rattle.house.proofs.Moves.{settle-number, settle-steps}
+use Rattle.house.proofs.Moves.{settle-number, settle-steps, settle-same}
 use Rattle.house.proofs.house.House.settle.Goals as goal
 
 pub returns-in_err-place-clause-steps : goal.returns-in_err-place-clause-steps
@@ -24,3 +24,10 @@ returns-clause-steps g c =
     let k = c.in_ok-place.place in
     let low : k < (plan_of h.plan).rooms = rw c.in_ok-place.ensures.cases.0 c.in_ok-place.ensures.cases.1 in
     rw (← c.in_ok-place.ensures.cases.0) (settle-steps g.W.Wire.meaning g.B.Book.holds h k low _ c.index_mut.ensures.value _ _ c.settle.result c.settle.ensures.cases)
+
+pub returns-clause-same : goal.returns-clause-same
+returns-clause-same g c =
+    let h = c.args.self.now in
+    let k = c.in_ok-place.place in
+    let low : k < (plan_of h.plan).rooms = rw c.in_ok-place.ensures.cases.0 c.in_ok-place.ensures.cases.1 in
+    settle-same g.W.Wire.meaning g.B.Book.holds h k low _ c.index_mut.ensures.value _ _ c.settle.result c.settle.ensures.cases _ refl refl refl refl
