@@ -4,7 +4,7 @@ ghost use Rattle.house.specs.Openings.{same_amounts, all_equal};
 
 use stock::Book;
 
-// Whether two books hold the same amount of each base.
+// Whether two books hold the same amount of each base. Books of two kinds can be compared, and so no `PartialEq`.
 fn hold_the_same<B: Book>(left: &B, right: &B) -> bool
     ensures value { result ≡ same_amounts (B.Book.holds left.now) (B.Book.holds right.now) }
 {

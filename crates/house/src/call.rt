@@ -17,7 +17,7 @@ pub enum Call {
     Pick { room: u8 },
 }
 
-// What a call answers.
+// What a call answers. A refusal is one of the answers, as the definitions of the calls have it.
 #[derive(Clone, Copy)]
 pub enum Answer {
     Refused(Refusal),
@@ -27,7 +27,7 @@ pub enum Answer {
     Batch(u16),
     // a settle: the batch, how many went ahead, and how many marks were thrown
     Settled { batch: u16, ahead: u16, thrown: u16 },
-    // a run: the outcome, and the place of the step that failed, counted from 1, or 0
+    // a run, which a rule of the project has answer so: the outcome, and the place of the step that failed, counted from 1, or 0
     Ran { outcome: Outcome, step: u8 },
     // an amount, in grams
     Amount(u32),

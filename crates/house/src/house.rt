@@ -10,6 +10,7 @@ use stock::Book;
 use wire::Wire;
 
 // A house: a sealed plan, a wire, and for each room of the plan its lists and its book. The rooms stand by their numbers.
+// Rooms and books are two lists: the books come in and go out as one, and to pair them would ask for memory.
 #[derive(Drop)]
 pub struct House<W, B> {
     pub(crate) plan: SealedPlan,

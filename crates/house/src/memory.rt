@@ -5,6 +5,7 @@ use rooms::{Room, RoomMemory};
 use std::alloc::{AllocError, Global};
 
 // All the memory that the rooms of a house will ever need: that of eight rooms, and space to keep them in.
+// The eight stand in a `Vec`, for each may want for memory: an array made by a closure would need a clause on it, no plainer.
 #[derive(Drop)]
 pub struct HouseMemory {
     pub(crate) rooms: Vec<Room>,
@@ -15,7 +16,7 @@ pub struct HouseMemory {
 }
 
 impl HouseMemory {
-    // Takes the memory, or tells that there is not enough.
+    // Takes the memory, or tells that there is not enough. What it has then is what the type says.
     pub fn reserve(heap: Global) -> Result<HouseMemory, AllocError> {
         let rooms = Vec::with_capacity(heap, 8)?;
         let mut memories = Vec::with_capacity(heap, 8)?;

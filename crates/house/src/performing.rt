@@ -15,7 +15,7 @@ use stock::Book;
 use wire::Wire;
 
 // Opens a house of a sealed plan over a new wire, makes every call of the list, and gives the house and the answers. The calls
-// are performed as they are defined, and the house keeps the promise. Where no house is opened, all is handed back as it was.
+// are performed as they are defined, and the house keeps the promise. Where no house is opened, what was handed over comes back as it was.
 pub fn perform<W: Wire + Drop, B: Book + Drop>(
     heap: Global,
     plan: SealedPlan,

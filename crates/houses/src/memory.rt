@@ -1,3 +1,4 @@
+// The memory of a sheet's house, taken before the house is opened.
 ghost use Rattle.std.specs.Prelude.{◌≡◌};
 ghost use Rattle.wire.specs.Wire.{new_wire};
 ghost use Rattle.houses.specs.Meanings.{wire_meaning};

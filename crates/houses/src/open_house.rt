@@ -1,3 +1,4 @@
+// The house of a sheet, open.
 ghost use Rattle.openings.specs.Amounts.{amounts_of};
 ghost use Rattle.houses.specs.Led.{InUse};
 

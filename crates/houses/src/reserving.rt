@@ -7,7 +7,7 @@ use wire::Wire;
 use wires::AnyWire;
 
 impl OpeningMemory {
-    // Takes the memory, or tells that there is not enough.
+    // Takes the memory, or tells that there is not enough. What it has then is what the type says.
     pub fn reserve(heap: Global) -> Result<OpeningMemory, AllocError> {
         Ok(OpeningMemory {
             wire: AnyWire::open(heap)?,

@@ -1,3 +1,4 @@
+// The memory of a house's books.
 ghost use Rattle.std.specs.Prelude.{◌≡◌, ◌≤◌, [], ◌∷◌, map, vec_capacity};
 ghost use Rattle.openings.specs.Books.{spare_in};
 

@@ -1,3 +1,4 @@
+// The memory that one book lies over.
 ghost use Rattle.std.specs.Prelude.{◌≡◌, vec_len};
 
 // A buffer of so many elements.

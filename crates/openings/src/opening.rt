@@ -1,3 +1,4 @@
+// The amounts that a house opens with.
 ghost use Rattle.std.specs.Prelude.{◌≡◌, false};
 ghost use Rattle.lists.specs.Words.{any};
 ghost use Rattle.stock.specs.Stock.{over_limit};

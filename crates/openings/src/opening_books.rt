@@ -21,7 +21,7 @@ impl<T: Copy, const N: usize> Buffer<T, N> {
 }
 
 impl BookMemory {
-    // Opens the book with the opening amounts.
+    // Opens the book with the opening amounts. Two arms, since opening is no call of `Book`: each kind has its own buffer.
     fn open(self, opening: &Opening) -> StockBook
         ensures { book_holds result ≡ record { amounts = amounts_of opening.now; spare = spare_in self } }
     {
@@ -40,7 +40,7 @@ impl BookMemory {
 }
 
 impl BooksMemory {
-    // Takes the memory of four books.
+    // Takes the memory of four books, or tells that there is not enough. What it has then is what the type says.
     pub fn take(heap: Global) -> Result<BooksMemory, AllocError> {
         let unused = Entry { base: 0, amount: 0 };
         Ok(BooksMemory {

@@ -72,7 +72,7 @@ impl BatchList {
         self.numbers.push_reserved(batch);
     }
 
-    // Takes a batch out.
+    // Takes a batch out, wherever it stands: the type does not say that a batch stands there once.
     pub(crate) fn take_out(&mut self, batch: u16)
         ensures { numbers_of self.new ≡ without batch (numbers_of self.old) }
     {
@@ -90,7 +90,7 @@ impl BatchList {
         }
     }
 
-    // Takes out the batch at a place.
+    // Takes out the batch at a place. A rule of the project: the one removal that closes a gap serves a room's lists too.
     fn cut(&mut self, at: usize)
         requires { at < length (numbers_of self.old) }
         ensures { numbers_of self.new ≡ without_at at (numbers_of self.old) }

@@ -18,7 +18,8 @@ use wire::{Announcement, Wire};
 
 impl Room {
     // Installs a sender's next announcement: takes it off the wire, writes its amounts to the book, and moves the batch to the
-    // end of the installed list. Answers the batch. A refused call changes nothing.
+    // end of the installed list. Answers the batch. A refused call changes nothing. Plan, wire and book stand
+    // apart in a room's calls, since each call lends another of them to be changed.
     pub fn install<W: Wire, B: Book>(
         &mut self,
         plan: &SealedPlan,

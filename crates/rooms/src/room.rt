@@ -6,6 +6,7 @@ use crate::batch_list::BatchList;
 use crate::record::Record;
 
 // A room: its three lists of batches, and the record of each of 256 batches. The lists together hold at most 256 batches.
+// A rule of the project: the records are a table inside the room, in memory that is taken at opening.
 #[derive(Drop)]
 pub struct Room {
     pub(crate) number: u8,

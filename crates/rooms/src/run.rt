@@ -16,7 +16,8 @@ use wire::Wire;
 
 impl Room {
     // Runs a batch that is first in all its lines: works it out from the book's amounts, and marks it with the result. Answers
-    // the outcome, and the place of the step that failed, counted from 1, or 0. A refused call changes nothing.
+    // the outcome, and the place of the step that failed, counted from 1, or 0: a rule of the project, and so no `Result` of the two.
+    // A refused call changes nothing.
     pub fn run<W: Wire, B: Book>(
         &mut self,
         plan: &SealedPlan,
@@ -33,7 +34,7 @@ impl Room {
         Ok((result.outcome, result.step))
     }
 
-    // Whether a batch may be run, and why not.
+    // Whether a batch may be run, and why not. The first three tests are those of a release too, each in its order of causes.
     pub(crate) fn check_run<W: Wire>(&self, works: &Works<W>, batch: u16) -> Result<(), Refusal>
         ensures { result ≡ answer (run_cause (works_in works.now) self.now.number (room_of self.now) batch) tt }
     {

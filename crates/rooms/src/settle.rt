@@ -14,7 +14,8 @@ use wire::Wire;
 
 impl Room {
     // Settles the next definitive batch, and before it all batches that go ahead of it. Answers that batch, how many went
-    // ahead, and how many marks were thrown. A refused call changes nothing.
+    // ahead, and how many marks were thrown: a rule of the project has a settle answer these three numbers. A refused call
+    // changes nothing.
     pub fn settle<W: Wire>(
         &mut self,
         plan: &SealedPlan,

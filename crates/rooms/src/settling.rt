@@ -73,7 +73,8 @@ impl<W: Wire> Next<'_, W> {
         }
     }
 
-    // Takes the marks off the waiting batches that have a base in common with this one, and answers how many.
+    // Takes the marks off the waiting batches that have a base in common with this one, and answers how many. A rule of the
+    // project: a loop over the elements of the waiting part takes them off, and counts.
     pub(crate) fn throw_marks(&self, records: &mut [Record], waiting: &[u16]) -> u16
         requires table { length records.old ≡ 256 }
         requires known { all known waiting.now ≡ true }

@@ -1,5 +1,5 @@
 // The set of a batch, and its master. A number that is not posted counts as a batch of set 1, and a set that the plan lacks as
-// room 0's.
+// room 0's, so that no definition needs an exception.
 ghost use Rattle.std.specs.Prelude.{◌≡◌, true};
 ghost use Rattle.sets.specs.Sets.{sized};
 ghost use Rattle.order.specs.Works.{Works as PostedWorks, set_of};
