@@ -1,5 +1,5 @@
 -- The books of a house over the memory of its rooms.
-use Rattle.std.proofs.Common.{◌≡◌, ℕ, zero, suc, ◌≤◌, List, [], ◌∷◌, map, take, refl, ap, ◌∙◌, arith}
+use Rattle.std.proofs.Common.{◌≡◌, ℕ, zero, suc, min, List, [], ◌∷◌, map, take, refl, ap, ◌∙◌, arith}
 use Rattle.lists.specs.Words.{rising}
 use Rattle.stock.specs.Stock.{Amounts, Stock}
 use Rattle.openings.specs.Books.{spare_in}
@@ -16,14 +16,14 @@ by_spare a [] (suc rooms) = refl
 by_spare a (m ∷ ms) zero = refl
 by_spare a (m ∷ ms) (suc rooms) = ap (λ books. with_spare a (spare_in m) ∷ books) (by_spare a ms rooms)
 
-by_room : (a : Amounts) (rooms : ℕ) → rooms ≤ 4 → map (with_spare a) (take rooms (4096 ∷ 4096 ∷ 1024 ∷ 1024 ∷ [])) ≡ map (new_book a) (rising 0 rooms)
-by_room a zero h = refl
-by_room a (suc zero) h = refl
-by_room a (suc (suc zero)) h = refl
-by_room a (suc (suc (suc zero))) h = refl
-by_room a (suc (suc (suc (suc zero)))) h = refl
-by_room a (suc (suc (suc (suc (suc rooms))))) h = absurd (omega arith)
+by_room : (a : Amounts) (rooms : ℕ) → map (with_spare a) (take rooms (4096 ∷ 4096 ∷ 1024 ∷ 1024 ∷ [])) ≡ map (new_book a) (rising 0 (min rooms 4))
+by_room a zero = refl
+by_room a (suc zero) = refl
+by_room a (suc (suc zero)) = refl
+by_room a (suc (suc (suc zero))) = refl
+by_room a (suc (suc (suc (suc zero)))) = refl
+by_room a (suc (suc (suc (suc (suc rooms))))) = let four : min (suc (suc (suc (suc (suc rooms))))) 4 ≡ 4 = omega arith in rw four refl
 
-pub opened : (a : Amounts) (memories : List BookMemory) (rooms : ℕ) → map spare_in memories ≡ 4096 ∷ 4096 ∷ 1024 ∷ 1024 ∷ [] → rooms ≤ 4 →
-    map (λ m. with_spare a (spare_in m)) (take rooms memories) ≡ map (new_book a) (rising 0 rooms)
-opened a memories rooms e h = by_spare a memories rooms ∙ ap (λ spares. map (with_spare a) (take rooms spares)) e ∙ by_room a rooms h
+pub opened : (a : Amounts) (memories : List BookMemory) (rooms : ℕ) → map spare_in memories ≡ 4096 ∷ 4096 ∷ 1024 ∷ 1024 ∷ [] →
+    map (λ m. with_spare a (spare_in m)) (take rooms memories) ≡ map (new_book a) (rising 0 (min rooms 4))
+opened a memories rooms e = by_spare a memories rooms ∙ ap (λ spares. map (with_spare a) (take rooms spares)) e ∙ by_room a rooms

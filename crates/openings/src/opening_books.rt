@@ -1,5 +1,5 @@
 // Taking the memory of a house's books, and opening the books over it.
-ghost use Rattle.std.specs.Prelude.{◌≡◌, ◌≤◌, map};
+ghost use Rattle.std.specs.Prelude.{◌≡◌, ◌≤◌, map, min};
 ghost use Rattle.lists.specs.Words.{rising};
 ghost use Rattle.stock.specs.StockBook.{book_holds};
 ghost use Rattle.openings.specs.Amounts.{amounts_of};
@@ -54,11 +54,10 @@ impl BooksMemory {
         })
     }
 
-    // Opens the books of so many rooms, all with the same amounts. No more than four rooms are asked for, since the memory is
-    // that of four books.
+    // Opens the books of so many rooms, all with the same amounts, and of four where there are more.
     pub fn open_books(self, rooms: u8, opening: &Opening) -> Vec<StockBook>
-        requires { rooms ≤ 4 }
-        ensures { map book_holds result.items ≡ map (new_book (amounts_of opening.now)) (rising 0 rooms) }
+        ensures value { map book_holds result.items ≡ map (new_book (amounts_of opening.now)) (rising 0 (min rooms 4)) }
+        ensures whole { rooms ≤ 4 → map book_holds result.items ≡ map (new_book (amounts_of opening.now)) (rising 0 rooms) }
     {
         let mut books = self.books;
         for memory in self.rooms.into_iter().take(rooms as usize) {

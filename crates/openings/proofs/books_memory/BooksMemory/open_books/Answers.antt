@@ -1,4 +1,4 @@
-use Rattle.std.proofs.Common.{◌≡◌, ◌∙◌, sym, ap, map, take, List, rules}
+use Rattle.std.proofs.Common.{◌≡◌, ◌∙◌, sym, ap, map, take, min, List, rules, arith}
 use Rattle.std.proofs.lemmas.List.{map-id}
 use Rattle.std.proofs.lemmas.Iterator.{YieldsList-from_take}
 use Rattle.std.proofs.lemmas.Iterator.Consumers.{YieldsList-from_shown, YieldsList-end}
@@ -19,5 +19,6 @@ returns c =
     let all = YieldsList-end road c.loop-memory.yielded c.loop-memory.memory-iterator c.loop-memory.yielded_by c.next.result c.next.new.self c.in-None.is c.next.ensures.steps in
     let memories : array_into_iter_items (take_source begun) ≡ c.args.self.rooms = search rules in
     let yielded : c.loop-memory.yielded ≡ take c.args.rooms c.args.self.rooms = sym (map-id c.loop-memory.yielded) ∙ all.0 ∙ ap (λ (l : List BookMemory). take c.args.rooms l) memories in
-    c.loop-memory.invariant.held ∙ ap (λ (l : List BookMemory). map (λ m. with_spare (amounts_of c.args.opening.now) (spare_in m)) l) yielded
-    ∙ opened (amounts_of c.args.opening.now) c.args.self.rooms c.args.rooms c.args.self.kinds c.requires
+    let value = c.loop-memory.invariant.held ∙ ap (λ (l : List BookMemory). map (λ m. with_spare (amounts_of c.args.opening.now) (spare_in m)) l) yielded
+    ∙ opened (amounts_of c.args.opening.now) c.args.self.rooms c.args.rooms c.args.self.kinds in
+    record { value = value; whole = λ h. let all_asked : min c.args.rooms 4 ≡ c.args.rooms = omega arith in rw all_asked at value }
