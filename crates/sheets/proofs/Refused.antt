@@ -18,7 +18,7 @@ turn-same s g f true None e = cc
 turn-same s g f true (Some c) e = refl
 turn-same s g f false cause e = refl
 
-refused_same : (s : Sheet) (r : Result Frame TextFault) (f : Fault) → by_text s r ≡ Err f → after_text s r ≡ s
+pub refused_same : (s : Sheet) (r : Result Frame TextFault) (f : Fault) → by_text s r ≡ Err f → after_text s r ≡ s
 refused_same s (Ok g) f e = turn-same s g f (in_turn s.stage g) (frame_cause s g) e
 refused_same s (Err t) f e = refl
 

@@ -14,6 +14,9 @@ use refusals::Refusal;
 // What an answer has in the place of a kind, where the line is no frame.
 const NO_KIND: u8 = 0xFF;
 
+// How many characters the answer to a refused line has.
+const REFUSED_LENGTH: usize = 7;
+
 impl Sheet {
     // The turn and the house layer: what a frame is answered with, or its fault.
     fn answer_frame(&mut self, frame: Frame) -> Result<Reply, Fault>
@@ -65,11 +68,11 @@ impl Sheet {
     }
 
     // Takes one line, and gives its answer line, which is written to the front of a buffer: of a refused line too.
+    #[tactic(auto, using(crate::proofs::AnswerLines::answered))]
     pub fn answer<'a>(&mut self, line: &[u8], buffer: &'a mut [u8; 16]) -> &'a [u8]
         ensures { Answered (sheet_of self.old) (sheet_of self.new) line.now result.now }
     {
-        let answered = self.answer_text(line);
-        let written = write_answer(answered, buffer);
+        let written = self.take_line(line, buffer).unwrap_or(REFUSED_LENGTH);
         &buffer[..written]
     }
 }
