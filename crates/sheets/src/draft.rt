@@ -7,7 +7,7 @@ use wires::WireKind;
 // A plan that is being written for at most four rooms, and the kind of wire that its house will have.
 #[derive(Drop)]
 pub struct Draft {
-    pub(crate) plan: PlanDraft,
-    pub(crate) wire: WireKind,
+    pub plan: PlanDraft,
+    pub wire: WireKind,
     ghost few: { (draft_of plan).rooms ≤ 4 },
 }

@@ -3,12 +3,12 @@
 
 mod acting;
 mod answering;
-mod draft;
+pub mod draft;
 mod drafting;
 pub mod fault;
 pub mod line_buffer;
 pub mod line_reading;
-mod open_house;
+pub mod open_house;
 pub mod sheet;
 pub mod stage;
 

@@ -11,9 +11,9 @@ use wires::WireKind;
 // The plan of a house, the kind of its wire, and the book of each of its rooms.
 #[derive(Drop)]
 pub struct OpenHouse {
-    pub(crate) plan: SealedPlan,
-    pub(crate) wire: WireKind,
-    pub(crate) books: Vec<StockBook>,
+    pub plan: SealedPlan,
+    pub wire: WireKind,
+    pub books: Vec<StockBook>,
 }
 
 impl OpenHouse {
