@@ -18,14 +18,16 @@ pub(crate) fn make_steps(steps: &[Step], amounts: &mut [u32; 32]) -> Result<(), 
     ensures value { ran result (amounts_in amounts.new) ≡ run_from steps.now 0 (amounts_in amounts.old) (amounts_in amounts.old) }
     ensures same { OnErr result (amounts.new ≡ amounts.old) }
 {
-    let mut after = *amounts;
+    let before = *amounts;
     for (place, step) in steps.iter().enumerate() {
-        make_step(*step, &mut after).map_err(|failure| Failed {
-            step: place as u8 + 1,
-            failure,
-        })?;
+        if let Err(failure) = make_step(*step, amounts) {
+            *amounts = before;
+            return Err(Failed {
+                step: place as u8 + 1,
+                failure,
+            });
+        }
     }
-    *amounts = after;
     Ok(())
 }
 

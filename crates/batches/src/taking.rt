@@ -61,8 +61,11 @@ impl Steps {
         ensures value { result ≡ slice_get (taken self.old) place }
         ensures cases { MatchOption result ((length (taken self.old) ≤ place) × (self.new ≡ self.old)) (λ _. (place < length (taken self.old)) × (taken self.new ≡ without_at place (taken self.old))) }
     {
+        if place >= self.count {
+            return None;
+        }
         let mut six = self.six();
-        let removed = close_gap(&mut six[..self.count], place)?;
+        let removed = close_gap(&mut six, place)?;
         *self = Steps::from_six(six, self.count - 1);
         Some(removed)
     }

@@ -5,4 +5,4 @@ use Rattle.batches.specs.Runs.{run_from}
 use Rattle.batches.proofs.running.make_steps.Given as goal
 
 abbrev pub invariant-loop-place : goal.invariant-loop-place
-invariant-loop-place l = run_from (drop l.place-counter l.steps) l.place-counter (amounts_in l.amounts) (amounts_in l.after) ≡ run_from l.steps 0 (amounts_in l.amounts) (amounts_in l.amounts)
+invariant-loop-place l = run_from (drop l.place l.steps) l.place (amounts_in l.before) (amounts_in l.amounts) ≡ run_from l.steps 0 (amounts_in l.before) (amounts_in l.before)
