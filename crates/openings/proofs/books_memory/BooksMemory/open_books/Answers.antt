@@ -14,7 +14,7 @@ pub returns : goal.returns
 returns c =
     let begun = c.into_iter-memory-iterator.result in
     let same = c.into_iter-memory-iterator.ensures.into_iter_gives in
-    let count : take_count begun ≡ c.args.rooms = ap take_count same ∙ c.take-memory-items.ensures.count in
+    let count : take_count begun ≡ c.args.rooms = ap take_count same ∙ omega (arith, c.take-memory-items.ensures.count) in
     let road = YieldsList-from_take {s = begun} c.args.rooms (YieldsList-from_shown (array_steps {A = BookMemory} {n = 4}) (λ (x : BookMemory). x) (array_into_iter_items {X = BookMemory} {n = 4}) (λ s t h. h.0) (λ s x t h. h) (take_source begun)) count in
     let all = YieldsList-end road c.loop-memory.yielded c.loop-memory.memory-iterator c.loop-memory.yielded_by c.next.result c.next.new.self c.in-None.is c.next.ensures.steps in
     let memories : array_into_iter_items (take_source begun) ≡ c.args.self.rooms = search rules in
